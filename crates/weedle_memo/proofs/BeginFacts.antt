@@ -6,16 +6,16 @@ use Rattle.weedle_grammar.specs.written.Bound.{rule_count}
 use Rattle.weedle_grammar.specs.written.Table.{webidl, row_of}
 use Rattle.weedle_grammar.proofs.Takes.{takes}
 use Rattle.weedle_grammar.proofs.Checked.{ranked}
-use Rattle.weedle_rules.specs.Cells.{HasEnd, cell_number}
+use Rattle.weedle_rules.specs.Cells.{HasEnd, turn_number}
 use Rattle.weedle_rules.specs.written.Bound.{most_reads}
-use Rattle.weedle_rules.proofs.PartEnds.{Along, along_start, along_known, Trying, trying_start, trying_known, opt_low, many_low, list_low, list1_low, tail_low}
-use Rattle.weedle_rules.proofs.ConditionEnds.{AlongIf, if_start, if_known, note_at, note_high}
+use Rattle.weedle_rules.proofs.PartEnds.{Along, along_start, along_before, Trying, trying_start, trying_before, opt_low, many_low, list_low, list1_low, tail_low}
+use Rattle.weedle_rules.proofs.ConditionEnds.{AlongIf, if_start, if_before, note_at, note_high}
 use Rattle.weedle_rules.proofs.FewReads.{seq_few, first_few, if_switch}
 use Rattle.weedle_rules.proofs.ListFrom.{parts_from}
 use Rattle.weedle_memo.specs.Frames.{IsPart, WaitsBy, Waits, IsOpen, IsFresh}
 use Rattle.weedle_memo.specs.declared.frame.Frame.{Frame}
 
-begins_by : {text : List ℕ} {f : Frame} {y : ℕ} {row : Row} → IsFresh text f → row_of f.rule ≡ row → WaitsBy text row f y f.place → cell_number (length text) y f.place < cell_number (length text) f.rule f.place → y < rule_count → Waits text f y f.place 0
+begins_by : {text : List ℕ} {f : Frame} {y : ℕ} {row : Row} → IsFresh text f → row_of f.rule ≡ row → WaitsBy text row f y f.place → turn_number (length text) y f.place < turn_number (length text) f.rule f.place → y < rule_count → Waits text f y f.place 0
 begins_by {text} {f} {y} s is on k yl =
     let a = s.part_is in
     let b = s.count_is in
@@ -29,7 +29,7 @@ begins_by {text} {f} {y} s is on k yl =
       part_few = omega arith;
     }
 
-lower : (text : List ℕ) (f : Frame) {y : ℕ} → y < f.rule → cell_number (length text) y f.place < cell_number (length text) f.rule f.place
+lower : (text : List ℕ) (f : Frame) {y : ℕ} → y < f.rule → turn_number (length text) y f.place < turn_number (length text) f.rule f.place
 lower text f h = omega arith
 
 module _ {text : List ℕ} {f : Frame} (s : IsFresh text f) where
@@ -50,7 +50,7 @@ module _ {text : List ℕ} {f : Frame} (s : IsFresh text f) where
       begins_by s is (
         (omega (arith, s.part_is, some), yi ∙ ap (slice_index parts) (sym s.part_is)),
         subst (λ z. Along webidl text takes f.rule f.place parts (drop z parts) f.place) (sym s.part_is) a,
-      ) (along_known webidl text takes ranked f.rule f.place y f.place parts (drop 1 parts) b yl) yl
+      ) (along_before webidl text takes ranked f.rule f.place y f.place parts (drop 1 parts) b yl) yl
 
   pub first_begins : {parts : List ℕ} {y : ℕ} → row_of f.rule ≡ First parts → y ≡ slice_index parts 0 → y < rule_count → Waits text f y f.place 0
   first_begins {parts} {y} is yi yl =
@@ -61,7 +61,7 @@ module _ {text : List ℕ} {f : Frame} (s : IsFresh text f) where
         (omega (arith, s.part_is, some), yi ∙ ap (slice_index parts) (sym s.part_is)),
         refl,
         subst (λ z. Trying webidl text takes f.rule parts (drop z parts) z f.place) (sym s.part_is) a,
-      ) (trying_known webidl text takes ranked f.rule 0 f.place y parts (drop 1 parts) b) yl
+      ) (trying_before webidl text takes ranked f.rule 0 f.place y parts (drop 1 parts) b) yl
 
   pub if_begins : {parts : List ℕ} {k l y : ℕ} → row_of f.rule ≡ If parts k l → y ≡ slice_index parts 0 → y < rule_count → Waits text f y f.place 0
   if_begins {parts} {k} {l} {y} is yi yl =
@@ -77,7 +77,7 @@ module _ {text : List ℕ} {f : Frame} (s : IsFresh text f) where
           subst (λ z. AlongIf webidl text takes f.rule k f.place parts (drop z parts) (note_at k z f.present) f.place) (sym s.part_is) (
               subst (λ z. AlongIf webidl text takes f.rule k f.place parts parts z f.place) (sym n) a),
         ),
-      ) (if_known webidl text takes ranked f.rule k f.place y f.place parts (drop 1 parts) (inl k) b yl) yl
+      ) (if_before webidl text takes ranked f.rule k f.place y f.place parts (drop 1 parts) (inl k) b yl) yl
 
   pub opt_begins : {y : ℕ} → row_of f.rule ≡ Opt y → y < rule_count → Waits text f y f.place 0
   opt_begins {y} is yl = begins_by s is (refl, refl) (lower text f (opt_low webidl text takes ranked f.rule y is)) yl

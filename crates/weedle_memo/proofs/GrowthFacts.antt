@@ -6,7 +6,7 @@ use Rattle.std.proofs.Math.ListN.{get_or-append}
 use Rattle.std.proofs.Math.Seq.{get_or-append_seam}
 use Rattle.weedle_grammar.specs.Rows.{Row, Bytes, OneOf, NotNext, Run, Past, Seq, First, Opt, Many, ListOf, List1, Tail, If}
 use Rattle.weedle_grammar.specs.written.Table.{row_of}
-use Rattle.weedle_rules.specs.Cells.{HasEnd, cell_number}
+use Rattle.weedle_rules.specs.Cells.{HasEnd, turn_number}
 use Rattle.weedle_rules.proofs.OutcomeFacts.{it_ends, it_fails, not_both}
 use Rattle.weedle_starts.specs.Tries.{RowTries, has_no_parts}
 use Rattle.weedle_memo.specs.Entries.{MemoEntry, Absent, entry_at}
@@ -56,14 +56,14 @@ all_closed text m n is are i d l = elim (cases_lt i (length m.entries)) [
       subst (λ (v : MemoEntry). IsClosed text (more m n) v.rule v.place) (sym g) (closed_more text m n n.rule n.place is))
 ]
 
-pub extends_one : (m : Memory) (n : MemoEntry) → IsClosed m.text m n.rule n.place → Extends m (more m n) (cell_number (length m.text) n.rule n.place)
+pub extends_one : (m : Memory) (n : MemoEntry) → IsClosed m.text m n.rule n.place → Extends m (more m n) (turn_number (length m.text) n.rule n.place)
 extends_one m n is = record {
   text_is = refl;
   start_is = refl;
   longer = omega (arith, length-append m.entries (n ∷ []));
   keeps = λ x q h. met_more m n h;
   leaves = λ x q l h. still_absent m.entries n x q h (λ er ep.
-      let e : cell_number (length m.text) n.rule n.place ≡ cell_number (length m.text) x q = ap (λ z. cell_number (length m.text) z n.place) er ∙ ap (λ z. cell_number (length m.text) x z) ep in
+      let e : turn_number (length m.text) n.rule n.place ≡ turn_number (length m.text) x q = ap (λ z. turn_number (length m.text) z n.place) er ∙ ap (λ z. turn_number (length m.text) x z) ep in
       apart _ _ l e);
   closes = all_closed m.text m n is;
 }
@@ -86,7 +86,7 @@ extends_on {m} {n} {k} {c} {d} {e} f g cl dl =
       start_is = g.start_is ∙ f.start_is;
       longer = omega arith;
       keeps = λ x q h. g.keeps x q (f.keeps x q h);
-      leaves = λ x q l h. g.leaves x q (subst (λ z. d < cell_number (length z) x q) (sym f.text_is) (below d e _ dl l)) (f.leaves x q (below c e _ cl l) h);
+      leaves = λ x q l h. g.leaves x q (subst (λ z. d < turn_number (length z) x q) (sym f.text_is) (below d e _ dl l)) (f.leaves x q (below c e _ cl l) h);
       closes = λ h. subst (λ z. AreClosed z k) f.text_is (g.closes (subst (λ z. AreClosed z n) (sym f.text_is) (f.closes h)));
     }
 
@@ -124,32 +124,32 @@ same_met m r p (Some q) None h k v = absurd (not_both (it_fails k) (it_ends h))
 
 -- it was known before
 pub worked_before : (m : Memory) (r p : ℕ) (o e : Option ℕ) → HasEnd m.text r p o → HasEnd m.text r p e → MetIf m r p e → IsWorked m m r p o
-worked_before m r p o e h k v = record { right = h; met = same_met m r p o e h k v; extends = extends_none m (cell_number (length m.text) r p) }
+worked_before m r p o e h k v = record { right = h; met = same_met m r p o e h k v; extends = extends_none m (turn_number (length m.text) r p) }
 
 -- the last of several that were worked out
-pub worked_last : {m n k : Memory} (r p q : ℕ) (o : Option ℕ) → Extends m n (cell_number (length m.text) r p) → IsWorked n k r q o → q ≡ p → IsWorked m k r p o
+pub worked_last : {m n k : Memory} (r p q : ℕ) (o : Option ℕ) → Extends m n (turn_number (length m.text) r p) → IsWorked n k r q o → q ≡ p → IsWorked m k r p o
 worked_last {m} {n} {k} r p q o e w is = record {
   right = subst (λ z. HasEnd z r p o) e.text_is (subst (λ z. HasEnd n.text r z o) is w.right);
   met = subst (λ z. MetIf k r z o) is w.met;
-  extends = extends_on e w.extends (itself _) (subst (λ z. cell_number (length z) r q ≤ cell_number (length m.text) r p) (sym e.text_is) (subst (λ z. cell_number (length m.text) r q ≤ cell_number (length m.text) r z) is (itself _)));
+  extends = extends_on e w.extends (itself _) (subst (λ z. turn_number (length z) r q ≤ turn_number (length m.text) r p) (sym e.text_is) (subst (λ z. turn_number (length m.text) r q ≤ turn_number (length m.text) r z) is (itself _)));
 }
   where
     itself : (a : ℕ) → a ≤ a
     itself a = omega arith
 
 -- one more of them, at a place behind
-pub extends_behind : {m n k : Memory} (r p q : ℕ) (o : Option ℕ) → Extends m n (cell_number (length m.text) r p) → IsWorked n k r q o → p ≤ q → Extends m k (cell_number (length m.text) r p)
-extends_behind {m} {n} {k} r p q o e w is = extends_on e w.extends (itself _) (subst (λ z. cell_number (length z) r q ≤ cell_number (length m.text) r p) (sym e.text_is) (lower (length m.text)))
+pub extends_behind : {m n k : Memory} (r p q : ℕ) (o : Option ℕ) → Extends m n (turn_number (length m.text) r p) → IsWorked n k r q o → p ≤ q → Extends m k (turn_number (length m.text) r p)
+extends_behind {m} {n} {k} r p q o e w is = extends_on e w.extends (itself _) (subst (λ z. turn_number (length z) r q ≤ turn_number (length m.text) r p) (sym e.text_is) (lower (length m.text)))
   where
     itself : (a : ℕ) → a ≤ a
     itself a = omega arith
 
-    lower : (t : ℕ) → cell_number t r q ≤ cell_number t r p
+    lower : (t : ℕ) → turn_number t r q ≤ turn_number t r p
     lower t = omega arith
 
 -- a frame is closed
-pub closing : (m n : Memory) (r p : ℕ) (o : Option ℕ) → n ≡ more m (entry_at r p o) → IsClosed m.text m r p → Extends m n (cell_number (length m.text) r p)
-closing m n r p o is h = subst (λ z. Extends m z (cell_number (length m.text) r p)) (sym is) (extends_one m (entry_at r p o) h)
+pub closing : (m n : Memory) (r p : ℕ) (o : Option ℕ) → n ≡ more m (entry_at r p o) → IsClosed m.text m r p → Extends m n (turn_number (length m.text) r p)
+closing m n r p o is h = subst (λ z. Extends m z (turn_number (length m.text) r p)) (sym is) (extends_one m (entry_at r p o) h)
 
 pub met_closing : (m n : Memory) (r p : ℕ) (o : Option ℕ) → n ≡ more m (entry_at r p o) → MetIf n r p o
 met_closing m n r p o is = subst (λ z. MetIf z r p o) (sym is) (met_last m (entry_at r p o) o)

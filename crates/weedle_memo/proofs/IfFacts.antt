@@ -8,10 +8,10 @@ use Rattle.weedle_grammar.specs.written.Bound.{rule_count}
 use Rattle.weedle_grammar.specs.written.Table.{webidl, row_of}
 use Rattle.weedle_grammar.proofs.Takes.{takes}
 use Rattle.weedle_grammar.proofs.Checked.{ranked}
-use Rattle.weedle_rules.specs.Cells.{HasEnd, cell_number}
+use Rattle.weedle_rules.specs.Cells.{HasEnd, turn_number}
 use Rattle.weedle_rules.specs.written.Bound.{most_reads}
-use Rattle.weedle_rules.proofs.RowEnds.{is_before, ends_after, ends_inside}
-use Rattle.weedle_rules.proofs.ConditionEnds.{AlongIf, NoteEnds, if_start, if_known, if_step, if_along_fails, if_along_ends, if_ends_none, if_ends_absent, if_ends_present, if_next_low, present, note_at, note_low, note_high, note_more, chosen_here, chosen_other}
+use Rattle.weedle_rules.proofs.RowEnds.{turn_before, ends_after, ends_inside}
+use Rattle.weedle_rules.proofs.ConditionEnds.{AlongIf, NoteEnds, if_start, if_before, if_step, if_along_fails, if_along_ends, if_ends_none, if_ends_absent, if_ends_present, if_next_low, present, note_at, note_low, note_high, note_more, chosen_here, chosen_other}
 use Rattle.weedle_rules.proofs.FewReads.{if_switch}
 use Rattle.weedle_rules.proofs.ListFrom.{parts_from, past_end}
 use Rattle.weedle_memo.specs.Frames.{IsPart, WaitsBy, Waits, IsOpen, IsOver}
@@ -56,7 +56,7 @@ module _ {text : List ℕ} {f : Frame} {x q k y : ℕ} {parts : List ℕ} (o : I
       let a = if_more many more h chosen in
       let l : f.part + 1 < length parts = omega (arith, many, less) in
       let c = subst (λ v. AlongIf webidl text takes f.rule k f.place parts v (note_at k (f.part + 1) b) e) (parts_from parts (f.part + 1) l ∙ ap (λ v. v ∷ drop (f.part + 1 + 1) parts) (sym zi)) a in
-      let before = if_known webidl text takes ranked f.rule k f.place z e parts (drop (f.part + 1 + 1) parts) (note_at k (f.part + 1) b) c zl in
+      let before = if_before webidl text takes ranked f.rule k f.place z e parts (drop (f.part + 1 + 1) parts) (note_at k (f.part + 1) b) c zl in
       let few = (if_switch o.low is).0 in
       waits_at f is (
         sym ge,
@@ -87,7 +87,7 @@ module _ {text : List ℕ} {f : Frame} {x q k y : ℕ} {parts : List ℕ} (o : I
       let a = if_more many more h chosen in
       let m = subst (λ v. NoteEnds webidl text (inl k) parts f.place (Some e) v) gave (if_done many more h chosen past) in
       let low = if_next_low webidl text takes ranked f.rule k y f.place e parts is m a.after in
-      let before = is_before f.place e y f.rule (length text) a.after a.within yl low in
+      let before = turn_before f.place e y f.rule (length text) a.after a.within yl low in
       let few = (if_switch o.low is).0 in
       waits_at f is (
         sym ge,

@@ -9,4 +9,6 @@ pub mod IfCovered
 pub mod GrowthFacts
 pub mod LeafFacts
 pub mod StepFacts
+pub mod OwnFacts
+pub mod WantedFacts
 pub mod MemoFacts

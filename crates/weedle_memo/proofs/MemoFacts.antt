@@ -4,14 +4,15 @@ use Rattle.weedle_grammar.specs.Rows.{Row, Bytes, OneOf, NotNext, Run, Past, Seq
 use Rattle.weedle_grammar.specs.Trees.{Outcome, Fails, Gives}
 use Rattle.weedle_grammar.specs.Laws.{HasOneOutcome}
 use Rattle.weedle_grammar.specs.written.Table.{row_of, Reads}
+use Rattle.weedle_grammar.specs.written.Table.Definitions.{DEFINITIONS}
 use Rattle.weedle_rules.specs.Cells.{HasEnd, end_of}
 use Rattle.weedle_rules.specs.Outcomes.{EndsAt, FailsAt}
 use Rattle.weedle_rules.proofs.OutcomeFacts.{it_fails, not_both}
 use Rattle.weedle_starts.specs.Tries.{SameAttempt, RowTries, Tries}
 use Rattle.weedle_memo.specs.Tables.{option_of, Lacks, Stays}
 use Rattle.weedle_memo.specs.Entries.{Reading, MemoEntry, Absent, IsAsked}
-use Rattle.weedle_memo.specs.Wanted.{WantedFrom, at_first, by}
-use Rattle.weedle_memo.specs.Closure.{Memory, memory_of, Met, stored, passed, MetIf, IsClosed, AreClosed, IsMemo}
+use Rattle.weedle_memo.specs.Wanted.{WantedFrom, Wanted, at_first, by}
+use Rattle.weedle_memo.specs.Closure.{Memory, memory_of, Met, stored, passed, MetIf, IsClosed, AreClosed, IsMemo, IsDefinitions}
 
 same_some : {a b : ℕ} → Some a ≡ Some b → a ≡ b
 same_some h = cc
@@ -72,3 +73,11 @@ asked_right s end r p e f w one (inr (none, absent, has)) =
     let m = memory_of s in
     let h = fails_here m r p one.0 one.1 (λ q d. wanted_known m s.start.rule s.start.place f.closed (first_known m s.start.rule s.start.place end f.ends f.first) w d) (unknown m r p absent has) in
     record { outcome = h.outcome; reads = h.reads; is = none ∙ h.is }
+
+-- of the definitions at the front
+module _ (s : Reading) (end : Option ℕ) (f : IsDefinitions s end) where
+  pub definitions_end : HasEnd s.text DEFINITIONS 0 end
+  definitions_end = subst (λ z. HasEnd s.text z.rule z.place end) f.start_is f.is_memo.ends
+
+  pub wanted_right : (r p : ℕ) (e : Option ℕ) → Wanted s.text r p → HasOneOutcome s.text r p → IsAsked s.words s.text s.known r p e → HasEnd s.text r p e
+  wanted_right r p e w one a = asked_right s end r p e f.is_memo (subst (λ z. WantedFrom s.text z.rule z.place r p) (sym f.start_is) w) one a

@@ -6,10 +6,10 @@ use Rattle.weedle_grammar.specs.written.Bound.{rule_count}
 use Rattle.weedle_grammar.specs.written.Table.{webidl, row_of}
 use Rattle.weedle_grammar.proofs.Takes.{takes}
 use Rattle.weedle_grammar.proofs.Checked.{ranked}
-use Rattle.weedle_rules.specs.Cells.{HasEnd, cell_number}
+use Rattle.weedle_rules.specs.Cells.{HasEnd, turn_number}
 use Rattle.weedle_rules.specs.written.Bound.{most_reads}
-use Rattle.weedle_rules.proofs.RowEnds.{RowEnds, is_before, rule_ends, row_ends, ends_after, ends_inside, seq_ends, first_ends, opt_absent, opt_present, many_ends, many_fails, many_goes, list_ends, list_goes, list1_ends, list1_goes, tail_ends, tail_fails, tail_gives_back, tail_goes}
-use Rattle.weedle_rules.proofs.PartEnds.{Along, along_start, along_known, along_step, along_fails, along_ends, Trying, trying_start, trying_known, first_fits, first_tries_on, first_fits_none, list_next_low, list1_next_low}
+use Rattle.weedle_rules.proofs.RowEnds.{RowEnds, turn_before, rule_ends, row_ends, ends_after, ends_inside, seq_ends, first_ends, opt_absent, opt_present, many_ends, many_fails, many_goes, list_ends, list_goes, list1_ends, list1_goes, tail_ends, tail_fails, tail_gives_back, tail_goes}
+use Rattle.weedle_rules.proofs.PartEnds.{Along, along_start, along_before, along_step, along_fails, along_ends, Trying, trying_start, trying_before, first_fits, first_tries_on, first_fits_none, list_next_low, list1_next_low}
 use Rattle.weedle_rules.proofs.FewReads.{seq_few, first_few, if_switch}
 use Rattle.weedle_rules.proofs.ListFrom.{parts_from, past_end}
 use Rattle.weedle_memo.specs.Frames.{IsPart, WaitsBy, Waits, IsOpen, IsOver}
@@ -54,14 +54,14 @@ module _ {text : List ℕ} {f : Frame} {x q : ℕ} {parts : List ℕ} (o : IsOpe
       let a = along_step webidl text takes ranked f.rule f.place x q e parts (drop (f.part + 1) parts) seq_along h in
       let l : f.part + 1 < length parts = omega (arith, many, more) in
       let b = subst (λ z. Along webidl text takes f.rule f.place parts z e) (parts_from parts (f.part + 1) l ∙ ap (λ z. z ∷ drop (f.part + 1 + 1) parts) (sym yi)) a in
-      let k = along_known webidl text takes ranked f.rule f.place y e parts (drop (f.part + 1 + 1) parts) b yl in
+      let k = along_before webidl text takes ranked f.rule f.place y e parts (drop (f.part + 1 + 1) parts) b yl in
       let few = seq_few o.low is in
       record {
         onward = subst (λ row. WaitsBy text row g y e) (sym is ∙ ap row_of (sym gr)) (
           (omega (arith, gn, l), yi ∙ ap (slice_index parts) (sym gn)),
           subst (λ z. Along webidl text takes z g.place parts (drop g.part parts) e) (sym gr) (subst (λ z. Along webidl text takes f.rule z parts (drop g.part parts) e) (sym gp) (subst (λ z. Along webidl text takes f.rule f.place parts (drop z parts) e) (sym gn) a)),
         );
-        before = subst (λ z. cell_number (length text) y e < cell_number (length text) z g.place) (sym gr) (subst (λ z. cell_number (length text) y e < cell_number (length text) f.rule z) (sym gp) k);
+        before = subst (λ z. turn_number (length text) y e < turn_number (length text) z g.place) (sym gr) (subst (λ z. turn_number (length text) y e < turn_number (length text) f.rule z) (sym gp) k);
         low = yl;
         within = a.within;
         few = omega (arith, w.few, gc, gn);
@@ -74,11 +74,11 @@ pub moved : {text : List ℕ} {x q y p : ℕ} {o : Option ℕ} → x ≡ y → q
 moved {text} {x} {q} {y} {p} {o} e d h = subst (λ z. HasEnd text z p o) e (subst (λ z. HasEnd text x z o) d h)
 
 -- a frame of the same cell, that waits for another
-pub waits_at : {text : List ℕ} (f : Frame) {g : Frame} {y e : ℕ} {row : Row} → row_of f.rule ≡ row → WaitsBy text row g y e → cell_number (length text) y e < cell_number (length text) f.rule f.place
+pub waits_at : {text : List ℕ} (f : Frame) {g : Frame} {y e : ℕ} {row : Row} → row_of f.rule ≡ row → WaitsBy text row g y e → turn_number (length text) y e < turn_number (length text) f.rule f.place
     → y < rule_count → e ≤ length text → g.rule ≡ f.rule → g.place ≡ f.place → g.count ≤ g.part → g.part < most_reads → Waits text g y e 0
 waits_at {text} f {g} {y} {e} is on k yl within gr gp few part_few = record {
   onward = subst (λ row. WaitsBy text row g y e) (sym is ∙ ap row_of (sym gr)) on;
-  before = subst (λ z. cell_number (length text) y e < cell_number (length text) z g.place) (sym gr) (subst (λ z. cell_number (length text) y e < cell_number (length text) f.rule z) (sym gp) k);
+  before = subst (λ z. turn_number (length text) y e < turn_number (length text) z g.place) (sym gr) (subst (λ z. turn_number (length text) y e < turn_number (length text) f.rule z) (sym gp) k);
   low = yl;
   within = within;
   few = omega arith;
@@ -117,7 +117,7 @@ module _ {text : List ℕ} {f : Frame} {x q : ℕ} {parts : List ℕ} (o : IsOpe
       let a = first_tries_on webidl text takes f.rule f.part f.place x parts (drop (f.part + 1) parts) first_trying (moved refl on.1 h) in
       let l : f.part + 1 < length parts = omega (arith, many, more) in
       let b = subst (λ z. Trying webidl text takes f.rule parts z (f.part + 1) f.place) (parts_from parts (f.part + 1) l ∙ ap (λ z. z ∷ drop (f.part + 1 + 1) parts) (sym yi)) a in
-      let k = trying_known webidl text takes ranked f.rule (f.part + 1) f.place y parts (drop (f.part + 1 + 1) parts) b in
+      let k = trying_before webidl text takes ranked f.rule (f.part + 1) f.place y parts (drop (f.part + 1 + 1) parts) b in
       let few = first_few o.low is in
       waits_at f is (
         (omega (arith, gn, l), yi ∙ ap (slice_index parts) (sym gn)),
@@ -134,11 +134,11 @@ module _ {text : List ℕ} {f : Frame} {x q y : ℕ} (is : row_of f.rule ≡ Opt
   opt_none h = let on = onward_by is w in over is w (opt_absent webidl text y f.place (moved on.0 on.1 h))
 
 -- where the rule itself, or another, is read behind a first end
-behind_cell : {text : List ℕ} {f : Frame} {y e z : ℕ} → IsOpen text f → HasEnd text y f.place (Some e) → z < rule_count → (e ≡ f.place → z < f.rule) → (cell_number (length text) z e < cell_number (length text) f.rule f.place) × (e ≤ length text)
+behind_cell : {text : List ℕ} {f : Frame} {y e z : ℕ} → IsOpen text f → HasEnd text y f.place (Some e) → z < rule_count → (e ≡ f.place → z < f.rule) → (turn_number (length text) z e < turn_number (length text) f.rule f.place) × (e ≤ length text)
 behind_cell {text} {f} {y} {e} {z} o h zl low =
     let after = ends_after webidl text y f.place e h in
     let within = ends_inside webidl text y f.place e h o.within in
-    (is_before f.place e z f.rule (length text) after within zl low, within)
+    (turn_before f.place e z f.rule (length text) after within zl low, within)
 
 -- a repetition
 module _ {text : List ℕ} {f : Frame} {x q y : ℕ} (o : IsOpen text f) (is : row_of f.rule ≡ Many y) (w : Waits text f x q 1) where
@@ -277,4 +277,4 @@ module _ {text : List ℕ} {f : Frame} {x q y s : ℕ} (o : IsOpen text f) (is :
       let gp : g.place ≡ f.place = ap (λ (v : Frame). v.place) gi in
       let gn : g.part ≡ 2 = ap (λ (v : Frame). v.part) gi in
       let gc : g.count ≡ f.count = ap (λ (v : Frame). v.count) gi in
-      waits_at f is (inr (inr (gn, sym gr, (q, (λ z. n (z ∙ gp)), moved refl (sym gp) k.2, c)))) (is_before f.place e f.rule f.rule (length text) (omega arith) j o.low (λ z. absurd (omega (arith, n)))) o.low j gr gp (omega (arith, w.few)) (omega arith)
+      waits_at f is (inr (inr (gn, sym gr, (q, (λ z. n (z ∙ gp)), moved refl (sym gp) k.2, c)))) (turn_before f.place e f.rule f.rule (length text) (omega arith) j o.low (λ z. absurd (omega (arith, n)))) o.low j gr gp (omega (arith, w.few)) (omega arith)

@@ -4,7 +4,7 @@ use Rattle.std.proofs.lemmas.List.{reverse-append}
 use Rattle.weedle_grammar.specs.Rows.{Row, Bytes, OneOf, NotNext, Run, Past, Seq, First, Opt, Many, ListOf, List1, Tail, If}
 use Rattle.weedle_grammar.specs.written.Bound.{rule_count}
 use Rattle.weedle_grammar.specs.written.Table.{row_of}
-use Rattle.weedle_rules.specs.Cells.{HasEnd, cell_number}
+use Rattle.weedle_rules.specs.Cells.{HasEnd, turn_number}
 use Rattle.weedle_rules.specs.written.Bound.{most_reads}
 use Rattle.weedle_memo.specs.Entries.{Absent, Start}
 use Rattle.weedle_memo.specs.Closure.{Memory, MetIf, AreClosed, Covered, CoveredStep, Extends}
@@ -111,22 +111,22 @@ falls_same text {f} {g} h w gi same =
     let p : h.place ≡ f.place = same.1 ∙ ap (λ (v : Frame). v.place) gi in
     let n : h.count ≡ f.count + 1 = same.2 ∙ ap (λ (v : Frame). v.count) gi in
     let room = look_room w in
-    let c : cell_number (length text) h.rule h.place ≡ cell_number (length text) f.rule f.place = ap (λ z. cell_number (length text) z h.place) r ∙ ap (λ z. cell_number (length text) f.rule z) p in
-    subst (λ z. z * 64 + (63 - h.count) < cell_number (length text) f.rule f.place * 64 + (63 - f.count)) (sym c) (subst (λ z. cell_number (length text) f.rule f.place * 64 + (63 - z) < cell_number (length text) f.rule f.place * 64 + (63 - f.count)) (sym n) (less (cell_number (length text) f.rule f.place) f.count room))
+    let c : turn_number (length text) h.rule h.place ≡ turn_number (length text) f.rule f.place = ap (λ z. turn_number (length text) z h.place) r ∙ ap (λ z. turn_number (length text) f.rule z) p in
+    subst (λ z. z * 64 + (63 - h.count) < turn_number (length text) f.rule f.place * 64 + (63 - f.count)) (sym c) (subst (λ z. turn_number (length text) f.rule f.place * 64 + (63 - z) < turn_number (length text) f.rule f.place * 64 + (63 - f.count)) (sym n) (less (turn_number (length text) f.rule f.place) f.count room))
   where
     less : (a c : ℕ) → c < most_reads → a * 64 + (63 - (c + 1)) < a * 64 + (63 - c)
     less a c h = omega arith
 
 pub falls_new : (text : List ℕ) {f : Frame} (h : Frame) {x q : ℕ} → Waits text f x q 0 → (h.rule ≡ x) × (h.place ≡ q) → weight text h < weight text f
 falls_new text {f} h {x} {q} w cell =
-    let c : cell_number (length text) h.rule h.place ≡ cell_number (length text) x q = ap (λ z. cell_number (length text) z h.place) cell.0 ∙ ap (λ z. cell_number (length text) x z) cell.1 in
-    lighter (cell_number (length text) h.rule h.place) (cell_number (length text) f.rule f.place) h.count f.count (subst (λ z. z < cell_number (length text) f.rule f.place) (sym c) w.before)
+    let c : turn_number (length text) h.rule h.place ≡ turn_number (length text) x q = ap (λ z. turn_number (length text) z h.place) cell.0 ∙ ap (λ z. turn_number (length text) x z) cell.1 in
+    lighter (turn_number (length text) h.rule h.place) (turn_number (length text) f.rule f.place) h.count f.count (subst (λ z. z < turn_number (length text) f.rule f.place) (sym c) w.before)
 
 -- more is known, of cells before
-waiting_on : {m n : Memory} {c : ℕ} → Extends m n c → (waiting : List Frame) (r p : ℕ) → AreWaiting m.text m waiting r p → c ≤ cell_number (length m.text) r p → AreWaiting m.text n waiting r p
+waiting_on : {m n : Memory} {c : ℕ} → Extends m n c → (waiting : List Frame) (r p : ℕ) → AreWaiting m.text m waiting r p → c ≤ turn_number (length m.text) r p → AreWaiting m.text n waiting r p
 waiting_on e [] r p h l = (h.0 ∙ sym (ap (λ (v : Start). v.rule) e.start_is), h.1 ∙ sym (ap (λ (v : Start). v.place) e.start_is))
 waiting_on {m} {n} {c} e (f ∷ fs) r p h l =
-    let less : c < cell_number (length m.text) f.rule f.place = smaller _ _ _ l h.1.before in (
+    let less : c < turn_number (length m.text) f.rule f.place = smaller _ _ _ l h.1.before in (
       h.0,
       h.1,
       e.leaves f.rule f.place less h.2,
@@ -169,7 +169,7 @@ none_closed text m e i d l = let none : length m.entries ≡ 0 = ap length e in 
 
 -- it goes on behind a rule without parts
 pub state_leaf : {m n : Memory} (waiting : List Frame) (f : Frame) {g h : Frame} {t : Step} {x q : ℕ} → IsOpen m.text f → Waits m.text f x q 0 → Absent m.entries f.rule f.place → AreWaiting m.text m waiting f.rule f.place
-    → g ≡ record f { count = f.count + 1 } → Extends m n (cell_number (length m.text) x q) → SameCell g h → IsStep n.text h t → CoveredStep n.text n h t → IsState n.text n waiting h t
+    → g ≡ record f { count = f.count + 1 } → Extends m n (turn_number (length m.text) x q) → SameCell g h → IsStep n.text h t → CoveredStep n.text n h t → IsState n.text n waiting h t
 state_leaf {m} {n} waiting f {g} {h} {t} o w none others gi e same turn tried = subst (λ z. IsState z n waiting h t) (sym e.text_is) (
     state_same {text = m.text} {m = n} o (e.leaves f.rule f.place w.before none) (waiting_on e waiting f.rule f.place others (under _ _ w.before)) gi same
     (subst (λ z. IsStep z h t) e.text_is turn) (subst (λ z. CoveredStep z n h t) e.text_is tried))
@@ -199,7 +199,7 @@ module _ {m : Memory} {f : Frame} {o : Option ℕ} (left : List Frame) (parent :
   pub parent_waits : IsOpen m.text parent × Waits m.text parent f.rule f.place 1 × IsCovered m.text m parent f.place
   parent_waits = let w = stack_is in (w.0, w.1, w.3)
 
-  pub state_after : {n : Memory} {h : Frame} {t : Step} → Extends m n (cell_number (length m.text) f.rule f.place) → SameCell parent h → IsStep n.text h t → CoveredStep n.text n h t → IsState n.text n (reverse left) h t
+  pub state_after : {n : Memory} {h : Frame} {t : Step} → Extends m n (turn_number (length m.text) f.rule f.place) → SameCell parent h → IsStep n.text h t → CoveredStep n.text n h t → IsState n.text n (reverse left) h t
   state_after {n} {h} {t} e same turn tried =
       let v : AreWaiting m.text n (parent ∷ reverse left) f.rule f.place = waiting_on e (parent ∷ reverse left) f.rule f.place stack_is (itself _) in
       let r : h.rule ≡ parent.rule = same.0 in

@@ -14,6 +14,9 @@ use Rattle.weedle_grammar.specs.declared.row.Parts.{Parts}
 use Rattle.weedle_rules.specs.Cells.{HasEnd}
 use Rattle.weedle_rules.proofs.RowEnds.{rule_ends, opt_absent, many_ends, list_ends, tail_ends}
 use Rattle.weedle_starts.specs.Starts.{CoversStarts}
+use Rattle.weedle_starts.specs.View.{row_view as starts_view}
+use Rattle.weedle_starts.specs.declared.row.Row as starts_rows
+use Rattle.weedle_starts.specs.declared.row.Row.TheVariants as starts_code
 use Rattle.weedle_memo.specs.Tables.{option_of, IsWordOf, IsWord, IsWay, IsLaid, AreTables, Lacks, Stays}
 use Rattle.weedle_grammar.specs.View.{row_view}
 use Rattle.weedle_grammar.specs.declared.row.Row as rows
@@ -154,3 +157,19 @@ none_of (code.List x y) a m l t = absurd (l x y refl)
 none_of (code.List1 x y) a m l t = refl
 none_of (code.Tail x s) a m l t = absurd (t x s refl)
 none_of (code.If parts k y) a m l t = refl
+
+-- the same of a row by the table of all rows
+pub none_of_row : (row : starts_rows.Row) → ((x : ℕ) → row ≡ starts_code.Opt x → ⊥) → ((x : ℕ) → row ≡ starts_code.Many x → ⊥) → ((x t : ℕ) → row ≡ starts_code.List x t → ⊥) → ((x s : ℕ) → row ≡ starts_code.Tail x s → ⊥) → option_of (starts_view row) ≡ None
+none_of_row (starts_code.Bytes b) a m l t = refl
+none_of_row (starts_code.OneOf c) a m l t = refl
+none_of_row (starts_code.NotNext c) a m l t = refl
+none_of_row (starts_code.Run c) a m l t = refl
+none_of_row (starts_code.Past b) a m l t = refl
+none_of_row (starts_code.Seq parts) a m l t = refl
+none_of_row (starts_code.First parts) a m l t = refl
+none_of_row (starts_code.Opt x) a m l t = absurd (a x refl)
+none_of_row (starts_code.Many x) a m l t = absurd (m x refl)
+none_of_row (starts_code.List x y) a m l t = absurd (l x y refl)
+none_of_row (starts_code.List1 x y) a m l t = refl
+none_of_row (starts_code.Tail x s) a m l t = absurd (t x s refl)
+none_of_row (starts_code.If parts k y) a m l t = refl

@@ -3,10 +3,11 @@ use Rattle.std.specs.Prelude.{◌≡◌, ◌≤◌, ◌<◌, ◌⊎◌, ℕ, fal
 use Rattle.std.proofs.Common.{get_or}
 use Rattle.weedle_grammar.specs.Rows.{Row, Bytes, OneOf, NotNext, Run, Past, Seq, First, Opt, Many, ListOf, List1, Tail, If}
 use Rattle.weedle_grammar.specs.written.Table.{row_of}
+use Rattle.weedle_grammar.specs.written.Table.Definitions.{DEFINITIONS}
 use Rattle.weedle_rules.specs.Outcomes.{EndsAt}
-use Rattle.weedle_rules.specs.Cells.{HasEnd, cell_number}
+use Rattle.weedle_rules.specs.Cells.{HasEnd, turn_number}
 use Rattle.weedle_starts.specs.Tries.{TriesInTurn, TriesByChoice, Tries, has_no_parts}
-use Rattle.weedle_memo.specs.Entries.{MemoEntry, Reading, Start, Absent}
+use Rattle.weedle_memo.specs.Entries.{MemoEntry, Reading, Start, start_at, Absent}
 use Rattle.weedle_memo.specs.Tables.{Stays}
 use Rattle.weedle_memo.specs.declared.frame.Look.{Look}
 use Rattle.weedle_memo.specs.declared.frame.Look.TheVariants.{Known, Unknown}
@@ -89,6 +90,11 @@ pub record IsMemo (r : Reading) (end : Option ℕ) : Type 0 where
   pub first : MetIf (memory_of r) r.start.rule r.start.place end
   pub closed : AreClosed r.text (memory_of r)
 
+-- the definitions at the front of a text were read
+pub record IsDefinitions (r : Reading) (end : Option ℕ) : Type 0 where
+  pub is_memo : IsMemo r end
+  pub start_is : r.start ≡ start_at DEFINITIONS 0
+
 -- the same text, the same words, and the same start
 abbrev pub SameText : Reading → Reading → Type 0
 SameText r s = (s.text ≡ r.text) × (s.words ≡ r.words) × (s.start ≡ r.start)
@@ -99,14 +105,14 @@ pub record Extends (m n : Memory) (c : ℕ) : Type 0 where
   pub start_is : n.start ≡ m.start
   pub longer : length m.entries ≤ length n.entries
   pub keeps : (x q : ℕ) → Met m x q → Met n x q
-  pub leaves : (x q : ℕ) → c < cell_number (length m.text) x q → Absent m.entries x q → Absent n.entries x q
+  pub leaves : (x q : ℕ) → c < turn_number (length m.text) x q → Absent m.entries x q → Absent n.entries x q
   pub closes : AreClosed m.text m → AreClosed m.text n
 
 -- rule r, which has no parts, was worked out at p
 pub record IsWorked (m n : Memory) (r p : ℕ) (o : Option ℕ) : Type 0 where
   pub right : HasEnd m.text r p o
   pub met : MetIf n r p o
-  pub extends : Extends m n (cell_number (length m.text) r p)
+  pub extends : Extends m n (turn_number (length m.text) r p)
 
 -- rule r was worked out at p, or it has parts, and nothing was done
 abbrev pub IsLeaf : Memory → Memory → ℕ → ℕ → Look → Type 0

@@ -1,7 +1,7 @@
 -- What is known of a text while it is read.
 use Rattle.std.specs.Prelude.{◌≡◌, ◌≤◌, ◌<◌, ℕ, List, [], length, Option, None, All, ◌⊎◌}
 use Rattle.std.proofs.Common.{get_or}
-use Rattle.weedle_grammar.specs.written.Bound.{rule_count}
+use Rattle.weedle_grammar.specs.written.Bound.{rule_count, table_count}
 use Rattle.weedle_rules.specs.Cells.{HasEnd}
 use Rattle.weedle_memo.specs.Tables.{Lacks}
 use Rattle.weedle_memo.specs.declared.frame.Look.{Look}
@@ -43,6 +43,14 @@ pub record IsRight (text : List ℕ) (note : MemoEntry) : Type 0 where
 
 abbrev pub AreRight : List ℕ → List MemoEntry → Type 0
 AreRight text known = (i : ℕ) (d : MemoEntry) → i < length known → IsRight text (get_or known i d)
+
+-- where the rule that is read is one of weedle2's, rule r is one too
+pub record IsOwn (first r : ℕ) : Type 0 where
+  pub stays : first < table_count → r < table_count
+
+-- the same of all entries
+abbrev pub AreOwn : ℕ → List MemoEntry → Type 0
+AreOwn first known = (i : ℕ) (d : MemoEntry) → i < length known → IsOwn first (get_or known i d).rule
 
 -- nothing is known of rule r at place p
 abbrev pub Absent : List MemoEntry → ℕ → ℕ → Type 0

@@ -5,7 +5,7 @@ use Rattle.weedle_grammar.specs.Rows.{Row, Bytes, OneOf, NotNext, Run, Past, Seq
 use Rattle.weedle_grammar.specs.written.Bound.{rule_count}
 use Rattle.weedle_grammar.specs.written.Table.{webidl, row_of}
 use Rattle.weedle_grammar.proofs.Takes.{takes}
-use Rattle.weedle_rules.specs.Cells.{HasEnd, cell_number}
+use Rattle.weedle_rules.specs.Cells.{HasEnd, turn_number}
 use Rattle.weedle_rules.specs.written.Bound.{most_reads}
 use Rattle.weedle_rules.proofs.PartEnds.{Along, Trying}
 use Rattle.weedle_rules.proofs.ConditionEnds.{AlongIf, NoteEnds, note_at}
@@ -42,7 +42,7 @@ WaitsBy text (Past b) f x q = ⊥
 -- the frame f waits for rule x at q, at which it looked (k is 1) or is yet to look (0)
 pub record Waits (text : List ℕ) (f : Frame) (x q k : ℕ) : Type 0 where
   pub onward : WaitsBy text (row_of f.rule) f x q
-  pub before : cell_number (length text) x q < cell_number (length text) f.rule f.place
+  pub before : turn_number (length text) x q < turn_number (length text) f.rule f.place
   pub low : x < rule_count
   pub within : q ≤ length text
   pub few : f.count ≤ f.part + k
@@ -96,7 +96,7 @@ pub record IsState (text : List ℕ) (m : Memory) (waiting : List Frame) (f : Fr
 
 -- what falls with each step: cells before, and then looks that are left
 abbrev pub weight : List ℕ → Frame → ℕ
-weight text f = cell_number (length text) f.rule f.place * 64 + (63 - f.count)
+weight text f = turn_number (length text) f.rule f.place * 64 + (63 - f.count)
 
 -- the entry of a frame with its outcome
 abbrev pub entry_for : Frame → Option ℕ → MemoEntry

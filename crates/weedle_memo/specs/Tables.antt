@@ -48,6 +48,10 @@ IsWay (way.List1 x t) row = (x < rule_count) × (t < rule_count) × (row ≡ Lis
 IsWay (way.Tail x s) row = (x < rule_count) × (s < rule_count) × (row ≡ Tail x s)
 IsWay (way.If parts k y) row = (y < rule_count) × (row ≡ If (numbers_of parts) k y)
 
+-- the words of all rules
+abbrev pub AreWords : List ℕ → Type 0
+AreWords words = (r : ℕ) → r < rule_count → IsWord (slice_index words r) r
+
 -- the way and the word of rule r
 abbrev pub IsLaid : List (Way Word Parts) → List ℕ → ℕ → Type 0
 IsLaid ways words r = ((d : Way Word Parts) → IsWay (get_or ways r d) (row_of r)) × IsWord (slice_index words r) r

@@ -5,7 +5,7 @@ ghost use Rattle.weedle_grammar.specs.Rows.{Bytes, OneOf, NotNext, Run, Past};
 ghost use Rattle.weedle_grammar.specs.written.Table.{row_of};
 ghost use Rattle.weedle_rules.specs.Cells.{HasEnd};
 ghost use Rattle.weedle_starts.specs.Tries.{has_no_parts};
-ghost use Rattle.weedle_memo.specs.Entries.{Absent};
+ghost use Rattle.weedle_memo.specs.Entries.{IsOwn, Absent};
 ghost use Rattle.weedle_memo.specs.Closure.{memory_of, SameText, IsWorked, IsLeaf, EndsAlike};
 
 use crate::READS;
@@ -25,6 +25,7 @@ fn fill_in(
     outcome: Option<usize>,
 ) -> Result<(), AllocError>
     requires leaf { has_no_parts (row_of rule) ≡ true }
+    requires own { IsOwn reader.old.start.rule rule }
     requires within { place ≤ length reader.old.text }
     requires right { HasEnd reader.old.text rule place outcome }
     requires looked { 0 < looks }
@@ -54,6 +55,7 @@ fn fill_back(
     outcome: Option<usize>,
 ) -> Result<(), AllocError>
     requires leaf { has_no_parts (row_of rule) ≡ true }
+    requires own { IsOwn reader.old.start.rule rule }
     requires order { place ≤ last }
     requires within { last ≤ length reader.old.text }
     requires alike { EndsAlike reader.old.text rule place last outcome }
@@ -84,6 +86,7 @@ fn work_bytes(
     bytes: &[u8],
 ) -> Result<Option<usize>, AllocError>
     requires row { row_of rule ≡ Bytes bytes.now }
+    requires own { IsOwn reader.old.start.rule rule }
     requires within { place ≤ length reader.old.text }
     requires absent { Absent reader.old.known rule place }
     ensures same { SameText reader.old reader.new }
@@ -104,6 +107,7 @@ fn work_one(
     class: Class,
 ) -> Result<Option<usize>, AllocError>
     requires row { row_of rule ≡ OneOf class }
+    requires own { IsOwn reader.old.start.rule rule }
     requires within { place ≤ length reader.old.text }
     requires absent { Absent reader.old.known rule place }
     ensures same { SameText reader.old reader.new }
@@ -124,6 +128,7 @@ fn work_not_next(
     class: Class,
 ) -> Result<Option<usize>, AllocError>
     requires row { row_of rule ≡ NotNext class }
+    requires own { IsOwn reader.old.start.rule rule }
     requires within { place ≤ length reader.old.text }
     requires absent { Absent reader.old.known rule place }
     ensures same { SameText reader.old reader.new }
@@ -143,6 +148,7 @@ fn work_run(
     class: Class,
 ) -> Result<Option<usize>, AllocError>
     requires row { row_of rule ≡ Run class }
+    requires own { IsOwn reader.old.start.rule rule }
     requires within { place ≤ length reader.old.text }
     ensures same { SameText reader.old reader.new }
     ensures worked { IfOk result
@@ -162,6 +168,7 @@ fn work_past(
     bytes: &[u8],
 ) -> Result<Option<usize>, AllocError>
     requires row { row_of rule ≡ Past bytes.now }
+    requires own { IsOwn reader.old.start.rule rule }
     requires within { place ≤ length reader.old.text }
     ensures same { SameText reader.old reader.new }
     ensures worked { IfOk result
@@ -190,6 +197,7 @@ fn work_past(
 /// Works out a rule without parts at a place. For a rule with parts it says that nothing is known.
 #[inline(always)]
 pub(crate) fn work(reader: &mut Reader<'_>, rule: Rule, place: usize) -> Result<Look, AllocError>
+    requires own { IsOwn reader.old.start.rule rule }
     requires within { place ≤ length reader.old.text }
     requires absent { Absent reader.old.known rule place }
     ensures same { SameText reader.old reader.new }

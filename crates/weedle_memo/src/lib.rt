@@ -10,9 +10,9 @@
 //! assert!(rt; memo.workings() < 100);
 //! ```
 //!
-//! The packrat table of `weedle_rules` fills a cell for each of the 386 rules at each place, 23
-//! times 386 of this text. Both say where a rule ends at a place, or that it fails; the memo only
-//! of what is read, and of what that tries.
+//! The packrat table of `weedle_rules` fills a cell for each of weedle2's 386 rules at each place,
+//! 23 times 386 of this text. Both say where a rule ends at a place, or that it fails; the memo
+//! only of what is read, and of what that tries.
 #![tactic(auto)]
 
 mod entries;
@@ -20,6 +20,7 @@ mod frame;
 mod leaves;
 mod machine;
 mod memo;
+mod memo_table;
 mod read;
 mod reader;
 mod rule_memo;

@@ -1,14 +1,16 @@
 //! The memo of the definitions at the front of a text.
 
 ghost use Rattle.std.specs.Prelude.{◌≡◌, ◌≤◌, ◌+◌, ◌*◌, length, IfOk};
-ghost use Rattle.weedle_grammar.specs.written.Bound.{rule_count};
+ghost use Rattle.weedle_grammar.specs.written.Bound.{table_count};
 ghost use Rattle.weedle_grammar.specs.written.Table.Definitions.{DEFINITIONS};
 ghost use Rattle.weedle_rules.specs.Cells.{HasEnd};
 ghost use Rattle.weedle_memo.specs.Wanted.{Wanted};
-ghost use Rattle.weedle_memo.specs.Entries.{AreRight, AreDistinct};
+ghost use Rattle.weedle_memo.specs.Entries.{AreRight, AreOwn, AreDistinct};
 
 use crate::READS;
-use crate::rule_memo::RuleMemo;
+use crate::memo_table::MemoTable;
+use crate::read::read;
+use crate::reader::Reader;
 use crate::tables::Tables;
 use std::alloc::{AllocError, Global};
 use std::marker::Model;
@@ -19,19 +21,19 @@ use weedle_grammar::Rule;
 /// Over `interface A {}; // end` the rule of definitions ends at 22 from place 0 on.
 #[derive(Drop)]
 pub struct Memo<'a> {
-    of_rule: RuleMemo<'a>,
+    table: MemoTable<'a>,
+    end: Option<usize>,
 }
 
 impl<'a> Model for Memo<'a> {
-    ghost use Rattle.std.specs.Prelude.{◌≡◌};
-    ghost use Rattle.weedle_grammar.specs.written.Table.Definitions.{DEFINITIONS};
-    ghost use Rattle.weedle_memo.specs.Entries.{Reading, start_at};
+    ghost use Rattle.weedle_memo.specs.Entries.{Reading};
+    ghost use Rattle.weedle_memo.specs.Closure.{IsDefinitions};
 
     ghost Value = { Reading };
 
-    ghost view = { λ memo. memo.of_rule };
+    ghost view = { λ memo. memo.table };
 
-    ghost invariant = { λ memo. memo.of_rule.start ≡ start_at DEFINITIONS 0 };
+    ghost invariant = { λ memo. IsDefinitions memo.table memo.end };
 }
 
 impl<'a> Memo<'a> {
@@ -40,8 +42,12 @@ impl<'a> Memo<'a> {
     pub fn new(alloc: Global, text: &'a str, tables: &'a Tables) -> Result<Memo<'a>, AllocError>
         ensures { IfOk result (λ memo. memo.text ≡ text.entry.now) }
     {
-        let of_rule = RuleMemo::new(alloc, text, tables, Rule::DEFINITIONS, 0)?;
-        Ok(Memo { of_rule })
+        let mut reader = Reader::new(alloc, text.as_bytes(), tables, Rule::DEFINITIONS, 0)?;
+        let end = read(alloc, &mut reader)?;
+        Ok(Memo {
+            table: reader.into_table(),
+            end,
+        })
     }
 
     /// Where the definitions at the front of the text end: 15 of `interface A {}; x`, and the length
@@ -49,7 +55,7 @@ impl<'a> Memo<'a> {
     pub fn definitions_end(&self) -> Option<usize>
         ensures { HasEnd self.now.text DEFINITIONS 0 result }
     {
-        self.of_rule.rule_end()
+        self.end
     }
 
     /// Where a rule ends at a place, or None where it fails there. It answers of what the reading of
@@ -60,26 +66,29 @@ impl<'a> Memo<'a> {
         requires wanted { Wanted self.now.text rule place }
         ensures right { HasEnd self.now.text rule place result }
     {
-        self.of_rule.end(rule, place)
+        weedle_grammar::laws::one_outcome();
+        self.table.asked(rule, place)
     }
 
     /// How many rules were worked out at a place, none of them twice there: of real files one to
     /// two for each byte of the text. It takes no memory.
     pub fn workings(&self) -> usize
         ensures value { result ≡ length self.now.known }
-        ensures few { result ≤ (length self.now.text + 1) * rule_count }
+        ensures few { result ≤ (length self.now.text + 1) * table_count }
         ensures right { AreRight self.now.text self.now.known }
+        ensures own { AreOwn DEFINITIONS self.now.known }
         ensures distinct { AreDistinct self.now.known }
     {
-        self.of_rule.workings()
+        self.table.workings()
     }
 
     /// How often a byte or an entry was looked at to work them out. It takes no memory.
     pub fn reads(&self) -> u128
         ensures value { result ≡ self.now.reads }
+        ensures each { length self.now.known ≤ result }
         ensures few { result ≤ READS * length self.now.known }
     {
-        self.of_rule.reads()
+        self.table.reads()
     }
 
     /// How many looks the working-out took that took most. It takes no memory.
@@ -87,6 +96,6 @@ impl<'a> Memo<'a> {
         ensures value { result ≡ self.now.most }
         ensures few { result ≤ READS }
     {
-        self.of_rule.most()
+        self.table.most()
     }
 }

@@ -5,16 +5,18 @@
 
 ghost use Rattle.std.specs.Prelude.{◌^◌, ◌≡◌, ◌≤◌, ◌<◌, ◌+◌, ◌*◌, ◌∷◌, ◌++◌, [], ℕ, length, max, IfOk, OnOk, drop, option_map};
 ghost use Rattle.weedle_grammar.specs.Rows.{take_bytes, take_one, take_not_next, run_length, take_past};
-ghost use Rattle.weedle_grammar.specs.written.Bound.{rule_count};
+ghost use Rattle.weedle_grammar.specs.written.Bound.{rule_count, table_count};
 ghost use Rattle.weedle_grammar.specs.written.Table.{row_of as the_row_of};
+ghost use Rattle.weedle_grammar.specs.written.Table.Definitions.{DEFINITIONS};
 ghost use Rattle.weedle_rules.specs.Cells.{HasEnd};
 ghost use Rattle.weedle_memo.specs.Tables.{IsWay};
-ghost use Rattle.weedle_memo.specs.Entries.{IsUnread, AreRight, AreDistinct, Absent, IsLook, IsAsked, entry_at, start_at};
+ghost use Rattle.weedle_memo.specs.Entries.{IsUnread, AreRight, IsOwn, AreOwn, AreDistinct, Absent, IsLook, IsAsked, entry_at, start_at};
 ghost use Rattle.weedle_memo.specs.Closure.{MetLook, memory_of, SameText};
 
 use crate::READS;
 use crate::entries::{Entries, Entry};
 use crate::frame::{Frame, Look};
+use crate::memo_table::MemoTable;
 use crate::tables::{Tables, Way, Word};
 use std::alloc::{AllocError, Global};
 use std::marker::Model;
@@ -50,7 +52,7 @@ impl<'a> Model for Reader<'a> {
       most = r.most;
     } };
 
-    ghost invariant = { λ r. IsReader r.text.now r.heads.items r.entries r.reads r.most };
+    ghost invariant = { λ r. IsReader r.rule r.text.now r.heads.items r.entries r.reads r.most };
 }
 
 impl<'a> Reader<'a> {
@@ -174,8 +176,11 @@ impl<'a> Reader<'a> {
     pub(crate) fn recall(&self)
         ensures fits { length self.now.text < 2 ^ 63 }
         ensures right { AreRight self.now.text self.now.known }
+        ensures own { AreOwn self.now.start.rule self.now.known }
         ensures distinct { AreDistinct self.now.known }
         ensures few { length self.now.known ≤ (length self.now.text + 1) * rule_count }
+        ensures few_own { self.now.start.rule < table_count
+            → length self.now.known ≤ (length self.now.text + 1) * table_count }
         ensures bounded { self.now.reads ≤ READS * length self.now.known }
     {
         let _ = &self.most;
@@ -257,6 +262,7 @@ impl<'a> Reader<'a> {
     ) -> Result<(), AllocError>
         requires within { place ≤ length self.old.text }
         requires right { HasEnd self.old.text rule place outcome }
+        requires own { IsOwn self.old.start.rule rule }
         requires absent { Absent self.old.known rule place }
         requires looked { 0 < looks }
         requires few { looks ≤ READS }
@@ -278,5 +284,21 @@ impl<'a> Reader<'a> {
         self.reads += looks as u128;
         self.most = self.most.max(looks);
         Ok(())
+    }
+
+    /// What is known once definitions are read at the front of the text, without the rows.
+    pub(crate) fn into_table(self) -> MemoTable<'a>
+        requires { self.start ≡ start_at DEFINITIONS 0 }
+        ensures { result ≡ self.entry }
+    {
+        let words = self.tables.words();
+        MemoTable {
+            text: self.text,
+            words,
+            heads: self.heads,
+            entries: self.entries,
+            reads: self.reads,
+            most: self.most,
+        }
     }
 }

@@ -1,10 +1,10 @@
 //! The memo of a rule that was read at a place of a text.
 
-ghost use Rattle.std.specs.Prelude.{◌≡◌, ◌≤◌, ◌+◌, ◌*◌, length, IfOk};
-ghost use Rattle.weedle_grammar.specs.written.Bound.{rule_count};
+ghost use Rattle.std.specs.Prelude.{◌≡◌, ◌≤◌, ◌<◌, ◌+◌, ◌*◌, length, IfOk};
+ghost use Rattle.weedle_grammar.specs.written.Bound.{rule_count, table_count};
 ghost use Rattle.weedle_rules.specs.Cells.{HasEnd};
 ghost use Rattle.weedle_memo.specs.Wanted.{WantedFrom};
-ghost use Rattle.weedle_memo.specs.Entries.{AreRight, AreDistinct, start_at};
+ghost use Rattle.weedle_memo.specs.Entries.{AreRight, AreOwn, AreDistinct, start_at};
 
 use crate::READS;
 use crate::read::read;
@@ -85,7 +85,10 @@ impl<'a> RuleMemo<'a> {
     pub fn workings(&self) -> usize
         ensures value { result ≡ length self.now.known }
         ensures few { result ≤ (length self.now.text + 1) * rule_count }
+        ensures few_own { self.now.start.rule < table_count
+            → result ≤ (length self.now.text + 1) * table_count }
         ensures right { AreRight self.now.text self.now.known }
+        ensures own { AreOwn self.now.start.rule self.now.known }
         ensures distinct { AreDistinct self.now.known }
     {
         self.reader.recall();

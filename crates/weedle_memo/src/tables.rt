@@ -2,7 +2,7 @@
 
 ghost use Rattle.std.specs.Prelude.{◌≡◌, ◌≤◌, length, slice_index_or};
 ghost use Rattle.weedle_grammar.specs.written.Table.{row_of as the_row_of};
-ghost use Rattle.weedle_memo.specs.Tables.{IsWay, IsWord, IsPassed};
+ghost use Rattle.weedle_memo.specs.Tables.{AreWords, IsWay, IsWord, IsPassed};
 
 use crate::frame::Look;
 use std::marker::Model;
@@ -40,12 +40,12 @@ pub(crate) enum Way<W, P> {
 type Ways = [Way<Word, Parts>; RULES];
 
 /// For each rule the ASCII bytes at which it isn't passed over, as the bits of a word.
-type Words = [u128; RULES];
+pub(crate) type Words = [u128; RULES];
 
 /// What the reading of any text asks of the rules, in the order of their numbers.
 ///
 /// `row_of` compares numbers until it finds a row, which takes longer than what is done with it. So
-/// each rule is asked for once. The tables take some 20 kB where they are, and no other memory.
+/// each rule is asked for once. The tables take some 27 kB where they are, and no other memory.
 #[derive(Drop)]
 pub struct Tables {
     ways: Ways,
@@ -118,6 +118,14 @@ impl Tables {
             words[number] = word_of(rule);
         }
         Tables { ways, words }
+    }
+
+    /// The words of all rules.
+    pub(crate) fn words(&self) -> &Words
+        ensures value { result.now ≡ self.now }
+        ensures covered { AreWords result.now }
+    {
+        &self.words
     }
 
     /// What the rule reads.

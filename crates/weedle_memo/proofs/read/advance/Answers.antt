@@ -3,6 +3,7 @@ use Rattle.weedle_grammar.specs.written.Table.{row_of}
 use Rattle.weedle_starts.specs.Tries.{has_no_parts}
 use Rattle.weedle_memo.specs.Closure.{memory_of, IsWorked}
 use Rattle.weedle_memo.proofs.StepFacts.{look_room, looked_covered, looked_waits, looked_open, state_same, state_leaf, state_begun, falls_same, row_covered_on, all_closed_on, closed_same}
+use Rattle.weedle_memo.proofs.OwnFacts.{next_own}
 use Rattle.weedle_memo.proofs.read.advance.Goals as goal
 
 pub look-requires-clause-within : goal.look-requires-clause-within
@@ -59,3 +60,6 @@ pub returns-in_ok-push-in-Unknown-2-clause-closed : goal.returns-in_ok-push-in-U
 returns-in_ok-push-in-Unknown-2-clause-closed c =
     let parts : (memory_of c.work.new.reader ≡ memory_of c.args.reader.now) × (has_no_parts (row_of c.args.rule) ≡ false) = rw c.in-Unknown-2.is at c.in_ok-outcome-in-Unknown.ensures.leaf in
     closed_same {m = memory_of c.args.reader.now} {n = memory_of c.work.new.reader} parts.0 c.requires.closed
+
+pub work-requires-clause-own : goal.work-requires-clause-own
+work-requires-clause-own c = next_own c.args.reader.now.text (memory_of c.args.reader.now) (reverse c.args.waiting.now.items) c.args.frame _ c.requires.others c.requires.waits

@@ -3,6 +3,7 @@ use Rattle.std.proofs.Common.{length, arith, ap, ◌∙◌, ◌≡◌}
 use Rattle.weedle_memo.specs.Closure.{memory_of}
 use Rattle.weedle_memo.proofs.GrowthFacts.{closing, met_closing}
 use Rattle.weedle_memo.proofs.StepFacts.{parent_waits, state_after, first_is, first_met, emptied, open_on, waits_on, row_covered_on, end_on, all_closed_on}
+use Rattle.weedle_memo.proofs.OwnFacts.{top_own}
 use Rattle.weedle_memo.proofs.read.read_parts.Goals as goal
 
 pub cells-preserved : goal.cells-preserved
@@ -66,3 +67,6 @@ returns-in-None-clause-closed c =
     let is = ap memory_of c.in_ok-keep.ensures.kept in
     let e = closing (memory_of c.settle.new.reader) (memory_of c.keep.new.self) c.in_ok-done.done.rule c.in_ok-done.done.place c.in_ok-done.outcome is c.in_ok-done.ensures.done.tried in
     all_closed_on {m = memory_of c.settle.new.reader} {n = memory_of c.keep.new.self} e c.in_ok-done.ensures.closed
+
+pub keep-requires-clause-own : goal.keep-requires-clause-own
+keep-requires-clause-own c = top_own c.settle.new.reader.text (memory_of c.settle.new.reader) _ _ c.in_ok-done.ensures.done.others

@@ -19,8 +19,9 @@ pub invariant_of-self-2 : goal.invariant_of-self-2
 invariant_of-self-2 c =
     let within = rw (← c.self.view_is) at c.requires.within in
     let right = rw (← c.self.view_is) at c.requires.right in
+    let own = rw (← c.self.view_is) at c.requires.own in
     let absent = rw (← c.self.view_is) at c.requires.absent in
-    rw c.in_ok-push.ensures.added (reader_closes c.self.inside.text.now c.self.inside.heads.items c.self.inside.entries c.self.inside.reads c.self.inside.most _ c.args.place c.args.looks c.len.result c.max-self-inside.result c.self.invariant within refl (record { low = (search rules); within = within; right = right }) absent c.index-next.ensures (grind (arith, common_steps) ∙ ap length c.in_ok-push.ensures.added ∙ length-append c.self.inside.entries _) c.requires.looked c.requires.few c.max-self-inside.ensures)
+    rw c.in_ok-push.ensures.added (reader_closes c.self.inside.rule c.self.inside.text.now c.self.inside.heads.items c.self.inside.entries c.self.inside.reads c.self.inside.most _ c.args.place c.args.looks c.len.result c.max-self-inside.result c.self.invariant within refl (record { low = (search rules); within = within; right = right }) own absent c.index-next.ensures (grind (arith, common_steps) ∙ ap length c.in_ok-push.ensures.added ∙ length-append c.self.inside.entries _) c.requires.looked c.requires.few c.max-self-inside.ensures)
 
 pub invariant_of-self : goal.invariant_of-self
 invariant_of-self c = rw c.in_err-push.ensures.refused c.self.invariant
