@@ -6,8 +6,9 @@ ghost use Rattle.weedle_idl.specs.written.DefinitionTrees.{definitions_tree};
 
 use crate::part::IdlPart;
 use std::alloc::{AllocError, Global};
-use weedle_build_base::build_front;
+use weedle_build_base::{Table, build_front};
 use weedle_idl::{Definition, Definitions};
+use weedle_memo::Memo;
 use weedle_rules::Ends;
 
 /// What was built of a text.
@@ -36,6 +37,23 @@ pub fn build_definitions<'a>(
     ensures { IfOk result
         (λ built. IsBuilt raw.now (definitions_tree built.list.items) built.rest.now built.visits) }
 {
-    let (list, rest, visits) = build_front::<Vec<IdlPart<Definition<'a>>>>(alloc, ends, raw)?;
+    let table = Table::of_ends(ends);
+    let (list, rest, visits) = build_front::<Vec<IdlPart<Definition<'a>>>>(alloc, table, raw)?;
+    Ok(Built { list, rest, visits })
+}
+
+/// Builds the definitions at the front of a text along the memo of its definitions, as
+/// [`build_definitions`] does along its packrat table. `raw` is the text that the memo is of.
+pub fn build_by_memo<'a>(
+    alloc: Global,
+    memo: &Memo<'_>,
+    raw: &'a str,
+) -> Result<Built<'a>, AllocError>
+    requires memo { memo.now.text ≡ raw.now }
+    ensures { IfOk result
+        (λ built. IsBuilt raw.now (definitions_tree built.list.items) built.rest.now built.visits) }
+{
+    let table = Table::of_memo(memo, raw);
+    let (list, rest, visits) = build_front::<Vec<IdlPart<Definition<'a>>>>(alloc, table, raw)?;
     Ok(Built { list, rest, visits })
 }

@@ -1,4 +1,5 @@
-//! The second pass over a text: the list of its definitions, built along its packrat table.
+//! The second pass over a text: the list of its definitions, built along its packrat table or along
+//! a memo of them.
 //!
 //! ```rust
 //! use weedle_build::build_definitions;
@@ -19,4 +20,4 @@ mod built;
 mod part;
 mod written;
 
-pub use built::{Built, build_definitions};
+pub use built::{Built, build_by_memo, build_definitions};

@@ -10,9 +10,12 @@ use Rattle.weedle_grammar.proofs.Unique.{one_outcome}
 use Rattle.weedle_grammar.proofs.Inversion.{choice_of, of_choice}
 use Rattle.weedle_rules.specs.Cells.{HasEnd}
 use Rattle.weedle_build_base.specs.Fits.{firsts, is_choice}
-use Rattle.weedle_build_base.specs.Built.{Due, Builds, Visits, IsChosen}
+use Rattle.weedle_starts.specs.Tries.{TriesByChoice}
+use Rattle.weedle_memo.specs.Wanted.{Wanted}
+use Rattle.weedle_build_base.specs.Built.{IsTried, Due, Builds, Visits, IsChosen}
 use Rattle.weedle_build_base.proofs.Finding.{absent, present}
 use Rattle.weedle_build_base.proofs.Sequences.{part_here, drop_none}
+use Rattle.weedle_build_base.proofs.WantedFacts.{wanted_by, first_wanted, others_wanted}
 
 -- the alternatives before number i don't fit, and one from there on does
 pub record Choosing (text parts : List ℕ) (p i : ℕ) : Type 0 where
@@ -20,18 +23,19 @@ pub record Choosing (text parts : List ℕ) (p i : ℕ) : Type 0 where
   pub end : ℕ
   pub left : ReadsFirst webidl text (drop i parts) i p (Gives given end)
   pub whole : (o : Outcome) → ReadsFirst webidl text (drop i parts) i p o → ReadsFirst webidl text parts 0 p o
+  pub wanted : (x q : ℕ) → TriesByChoice text (drop i parts) p x q → Wanted text x q
   pub utf8 : IsUtf8 text
   pub boundary : IsCharBoundary text p
 
-start_from : {text parts : List ℕ} {p e : ℕ} {ts : List Tree} (shape : Shape) (row : Row) (o : Outcome) → IsUtf8 text → IsCharBoundary text p
+start_from : {text parts : List ℕ} {p e : ℕ} {ts : List Tree} (shape : Shape) (row : Row) (o : Outcome) → ((x q : ℕ) → TriesByChoice text parts p x q → Wanted text x q) → IsUtf8 text → IsCharBoundary text p
     → ReadsFirst webidl text parts 0 p o → Gives ts e ≡ shaped text row shape p (raw_of o) → Choosing text parts p 0
-start_from shape row Fails u b d h = cc
-start_from shape row (Gives us q) u b d h = record { given = us; end = q; left = d; whole = λ o d. d; utf8 = u; boundary = b }
+start_from shape row Fails a u b d h = cc
+start_from shape row (Gives us q) a u b d h = record { given = us; end = q; left = d; whole = λ o d. d; wanted = a; utf8 = u; boundary = b }
 
 -- at first
 pub choosing_start : {text parts : List ℕ} {r p : ℕ} → Due text r p → First parts ≡ row_of r → Choosing text parts p 0
 choosing_start {text} {parts} {r} {p} d e =
-    let c = choice_of (sym e) d.reads in start_from (shape_of r) (First parts) c.0 d.utf8 d.boundary c.1 c.2
+    let c = choice_of (sym e) d.reads in start_from {text = text} {parts = parts} {p = p} (shape_of r) (First parts) c.0 (λ x q k. wanted_by d (sym e) k) d.utf8 d.boundary c.1 c.2
 
 module _ {text parts : List ℕ} {p i : ℕ} (h : Choosing text parts p i) {x : ℕ} (at : slice_get parts i ≡ Some x) where
   split : ReadsFirst webidl text (x ∷ drop (i + 1) parts) i p (Gives h.given h.end)
@@ -46,6 +50,10 @@ module _ {text parts : List ℕ} {p i : ℕ} (h : Choosing text parts p i) {x : 
   unnumbered : (o : Outcome) → ReadsFirst webidl text (drop (i + 1) parts) (i + 1) p o → ReadsFirst webidl text (drop (i + 1) parts) (suc i) p o
   unnumbered o d = let q : i + 1 ≡ suc i = omega arith in subst (λ j. ReadsFirst webidl text (drop (i + 1) parts) j p o) q d
 
+  -- it is tried
+  pub choosing_tried : IsTried text x p
+  choosing_tried = record { wanted = first_wanted parts i at h.wanted; utf8 = h.utf8; boundary = h.boundary }
+
   -- an alternative that fails is passed
   pub choosing_next : HasEnd text x p None → Choosing text parts p (i + 1)
   choosing_next e =
@@ -57,6 +65,7 @@ module _ {text parts : List ℕ} {p i : ℕ} (h : Choosing text parts p i) {x : 
           end = h.end;
           left = numbered _ g.1;
           whole = λ o d. back o (first_next f (unnumbered o d));
+          wanted = others_wanted parts i at h.wanted f;
           utf8 = h.utf8;
           boundary = h.boundary;
         }
@@ -70,7 +79,7 @@ module _ {text parts : List ℕ} {p i : ℕ} (h : Choosing text parts p i) {x : 
       let w : i < length parts = slice_get_within parts i x at in
       record {
         below = subst (λ ys. i < length ys) (sym ps) w;
-        due = subst (λ y. Due text y p) (sym n) (present h.utf8 h.boundary f);
+        due = subst (λ y. Due text y p) (sym n) (present choosing_tried f);
         gives = λ t q d.
             let g : ReadsFirst webidl text parts 0 p (Gives (Alt i t ∷ []) q) = back _ (first_here (subst (λ y. Reads text y p (Gives (t ∷ []) q)) n d) refl) in
             by_row (subst (λ row. ReadsRow webidl text row p (raw_of (Gives (Alt i t ∷ []) q))) row (by_first g refl)) (rw (shape, sym row) refl);

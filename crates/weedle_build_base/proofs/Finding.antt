@@ -1,13 +1,12 @@
 -- What the table says of a rule at a place.
 use Rattle.std.proofs.Common.{◌≡◌, ℕ, List, [], ◌∷◌, Some, None, refl, sym, subst}
-use Rattle.std.specs.Prelude.{IsUtf8, IsCharBoundary}
 use Rattle.weedle_grammar.specs.Trees.{Tree, Mark, Outcome, Fails, Gives}
 use Rattle.weedle_grammar.specs.Meaning.{Marked, Raw, Breaks, Yields, shaped}
 use Rattle.weedle_grammar.specs.written.Table.{row_of, shape_of, Reads}
 use Rattle.weedle_rules.specs.Cells.{HasEnd, end_of}
 use Rattle.weedle_grammar.proofs.Unique.{one_outcome}
 use Rattle.weedle_grammar.proofs.Inversion.{at_row}
-use Rattle.weedle_build_base.specs.Built.{plus, Due, Found, Visits, Builds}
+use Rattle.weedle_build_base.specs.Built.{plus, IsTried, Due, Found, Visits, Builds}
 
 ends_at : {text : List ℕ} {r p e : ℕ} (o : Outcome) → Reads text r p o → Some e ≡ end_of o → Found text r p e
 ends_at Fails d h = cc
@@ -30,8 +29,8 @@ pub not_absent : {text : List ℕ} {r p : ℕ} → Due text r p → HasEnd text 
 not_absent d h = let e = one_outcome (absent h) d.reads refl in cc
 
 -- where the table has an end, something is to be built
-pub present : {text : List ℕ} {r p e : ℕ} → IsUtf8 text → IsCharBoundary text p → HasEnd text r p (Some e) → Due text r p
-present {text} {r} {p} {e} utf8 boundary h = let f = found h in record { given = f.given; end = e; reads = f.reads; utf8 = utf8; boundary = boundary }
+pub present : {text : List ℕ} {r p e : ℕ} → IsTried text r p → HasEnd text r p (Some e) → Due text r p
+present {text} {r} {p} {e} t h = let f = found h in record { given = f.given; end = e; reads = f.reads; wanted = t.wanted; utf8 = t.utf8; boundary = t.boundary }
 
 marked_from : (text : List ℕ) (r p : ℕ) {e : ℕ} {ts : List Tree} → shape_of r ≡ Marked → (w : Raw) → Gives ts e ≡ shaped text (row_of r) (shape_of r) p w → ts ≡ Mark ∷ []
 marked_from text r p s Breaks h = cc

@@ -11,9 +11,12 @@ use Rattle.weedle_grammar.proofs.Unique.{one_outcome}
 use Rattle.weedle_grammar.proofs.Inversion.{parts_of, of_parts}
 use Rattle.weedle_grammar.proofs.Exists.{grows}
 use Rattle.weedle_grammar.proofs.GrammarFacts.{at_boundary}
+use Rattle.weedle_starts.specs.Tries.{TriesInTurn}
+use Rattle.weedle_memo.specs.Wanted.{Wanted}
 use Rattle.weedle_build_base.specs.Fits.{list_of, is_kept}
 use Rattle.weedle_build_base.specs.Built.{plus, Due, Found, Builds}
 use Rattle.weedle_build_base.proofs.Sequences.{part_here, drop_none}
+use Rattle.weedle_build_base.proofs.WantedFacts.{wanted_by, part_wanted, parts_wanted}
 
 -- part i of the rule begins at start, and the text of part i + j is kept
 pub record Keeping (text : List ℕ) (r p i j start : ℕ) : Type 0 where
@@ -22,6 +25,7 @@ pub record Keeping (text : List ℕ) (r p i j start : ℕ) : Type 0 where
   pub end : ℕ
   pub whole : Reads text r p (Gives (Text (kept text start (ends_of pieces) j) ∷ []) end)
   pub room : i + j < length (list_of (row_of r))
+  pub wanted : (x q : ℕ) → TriesInTurn text (drop i (list_of (row_of r))) start x q → Wanted text x q
   pub utf8 : IsUtf8 text
   pub boundary : IsCharBoundary text start
 
@@ -46,18 +50,18 @@ is_kept_is k (ListOf x t) shape h = cc
 is_kept_is k (List1 x t) shape h = cc
 is_kept_is k (Tail x s) shape h = cc
 
-start_from : {text : List ℕ} {r p k end : ℕ} {given : List Tree} (row : Row) (shape : Shape) (o : Option (List Piece)) → shape ≡ Kept k → k < length (list_of (row_of r)) → IsUtf8 text → IsCharBoundary text p
+start_from : {text : List ℕ} {r p k end : ℕ} {given : List Tree} (row : Row) (shape : Shape) (o : Option (List Piece)) → shape ≡ Kept k → k < length (list_of (row_of r)) → ((x q : ℕ) → TriesInTurn text (list_of (row_of r)) p x q → Wanted text x q) → IsUtf8 text → IsCharBoundary text p
     → ReadsSeq webidl text (list_of (row_of r)) p o → Gives given end ≡ shaped text row shape p (together p o) → Reads text r p (Gives given end) → Keeping text r p 0 k p
-start_from row shape None s b u c d h w = cc
-start_from {text} {r} {p} {k} {end} {given} row shape (Some ps) s b u c d h w =
+start_from row shape None s b a u c d h w = cc
+start_from {text} {r} {p} {k} {end} {given} row shape (Some ps) s b a u c d h w =
     let e : Gives given end ≡ Gives (Text (kept text p (ends_of ps) k) ∷ []) (last_end p ps) = h ∙ ap (λ z. shaped text row z p (together p (Some ps))) s in
-    record { pieces = ps; left = d; end = last_end p ps; whole = subst (Reads text r p) e w; room = omega arith; utf8 = u; boundary = c }
+    record { pieces = ps; left = d; end = last_end p ps; whole = subst (Reads text r p) e w; room = omega arith; wanted = a; utf8 = u; boundary = c }
 
 pub keeping_start : {text : List ℕ} {r p k : ℕ} → Due text r p → is_kept k (row_of r) (shape_of r) ≡ true → Keeping text r p 0 k p
 keeping_start {text} {r} {p} {k} d t =
     let s = is_kept_is k (row_of r) (shape_of r) t in
     let h = parts_of s.0 d.reads in
-    start_from {text = text} {r = r} {p = p} {k = k} (Seq (list_of (row_of r))) (shape_of r) h.0 s.1 s.2 d.utf8 d.boundary h.1 h.2 d.reads
+    start_from {text = text} {r = r} {p = p} {k = k} (Seq (list_of (row_of r))) (shape_of r) h.0 s.1 s.2 (λ x q m. wanted_by d s.0 m) d.utf8 d.boundary h.1 h.2 d.reads
 
 module _ {text : List ℕ} {r p i j start : ℕ} (h : Keeping text r p i j start) where
   pub part_is_there : slice_get (list_of (row_of r)) i ≡ None → ⊥
@@ -70,7 +74,7 @@ module _ {text : List ℕ} {r p i j start : ℕ} (h : Keeping text r p i j start
     pub part_due : Due text x start
     part_due = elim (of_parts split) [
       | inl f ↦ absurd (let e = f.1 in cc)
-      | inr m ↦ record { given = m.0; end = m.1; reads = m.3; utf8 = h.utf8; boundary = h.boundary }
+      | inr m ↦ record { given = m.0; end = m.1; reads = m.3; wanted = part_wanted (list_of (row_of r)) i at h.wanted; utf8 = h.utf8; boundary = h.boundary }
     ]
 
     module _ {stop : ℕ} (f : Found text x start stop) where
@@ -104,6 +108,7 @@ module _ {text : List ℕ} {r p i j start : ℕ} (h : Keeping text r p i j start
             whole = subst (λ n. Reads text r p (Gives (Text (kept text start (ends_of (piece o.0 stop ∷ o.1.0)) n) ∷ []) h.end)) e
                 (subst (λ ps. Reads text r p (Gives (Text (kept text start (ends_of ps) j) ∷ []) h.end)) o.1.1 h.whole);
             room = let a = h.room in omega (arith, e);
+            wanted = parts_wanted (list_of (row_of r)) i at h.wanted (f.given, f.reads);
             utf8 = h.utf8;
             boundary = stop_boundary;
           }

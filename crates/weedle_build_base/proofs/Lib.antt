@@ -1,5 +1,6 @@
 pub mod Finding
 pub mod Sequences
+pub mod WantedFacts
 pub mod Options
 pub mod Choices
 pub mod Keeping

@@ -178,7 +178,7 @@ module _ {text : List ℕ} {p q : ℕ} {bytes : List ℕ} (h : Lining text p byt
 
     -- which takes a byte
     pub lining_takes : (q < e) × (e ≤ length text)
-    lining_takes = let n = repeating_next h.tail built in (item_takes h.tail built, n.boundary.0)
+    lining_takes = let n = repeating_next h.tail built in (item_takes h.tail built, n.due.boundary.0)
 
   -- no more lines
   pub lining_end : {v w : ℕ} → HasEnd text DOC_LINE q None → w ≡ plus v 1 → Builds text DOCSTRING (Lines bytes) p v q w

@@ -14,6 +14,7 @@ use Rattle.weedle_grammar.proofs.GrammarFacts.{at_boundary}
 use Rattle.weedle_grammar.proofs.Size.Lists.{size_trees}
 use Rattle.weedle_build_base.specs.Fits.{list_of, fits_list1, fits_tail, fits_non_empty}
 use Rattle.weedle_build_base.specs.Built.{plus, Due, Found, Builds, IsDueList, BuiltItems}
+use Rattle.weedle_build_base.proofs.WantedFacts.{wanted_by}
 use Rattle.weedle_build_base.proofs.Separated.{due_behind}
 
 -- the list's rule and the separator's, of a rule of such lists
@@ -120,22 +121,22 @@ seen_list1 (code.List y z) e n = cc
 seen_list1 (code.Tail y z) e n = cc
 seen_list1 (code.If ps k y) e n = cc
 
-list1_due_from : {text : List ℕ} {x t p : ℕ} (given : List Tree) (end : ℕ) (shape : Shape) (raw : Raw) → IsUtf8 text → IsCharBoundary text p
+list1_due_from : {text : List ℕ} {m x t p : ℕ} (given : List Tree) (end : ℕ) (shape : Shape) (raw : Raw) → Due text m p → row_of m ≡ List1 x t
     → ReadsRow webidl text (List1 x t) p raw → Gives given end ≡ shaped text (List1 x t) shape p raw → IsDueList text x t p
-list1_due_from {text} {x} {t} {p} given end shape raw u b d h = elim (of_list1 d) [
+list1_due_from {text} {m} {x} {t} {p} given end shape raw u row d h = elim (of_list1 d) [
   | inl n ↦ absurd (let z : raw ≡ Breaks = n.1 in let y = h ∙ ap (shaped text (List1 x t) shape p) z in cc)
   | inr m ↦ record {
-    item = record { given = m.0; end = m.1; reads = m.3; utf8 = u; boundary = b };
+    item = record { given = m.0; end = m.1; reads = m.3; wanted = wanted_by u row (inl (refl, refl)); utf8 = u.utf8; boundary = u.boundary };
     next = λ us q g. (let z = one_outcome m.3 g refl in
         let j : m.1 ≡ q = cc in
         let k : raw ≡ before m.0 (raw_of m.2) = m.5 in
-        due_behind (List1 x t) shape p q given m.0 end m.2 u (at_boundary text x p u b us q g) (h ∙ ap (shaped text (List1 x t) shape p) k) (subst (λ y. Reads text t y m.2) j m.4));
+        due_behind (List1 x t) shape p q given m.0 end m.2 (wanted_by u row (inr (q, (us, g), (refl, refl)))) u.utf8 (at_boundary text x p u.utf8 u.boundary us q g) (h ∙ ap (shaped text (List1 x t) shape p) k) (subst (λ y. Reads text t y m.2) j m.4));
   }
 ]
 
 -- its items are due where it is
 pub list1_due : {text : List ℕ} {m x t p : ℕ} → Due text m p → row_of m ≡ List1 x t → IsDueList text x t p
-list1_due {text} {m} {x} {t} {p} d row = let h = at_row row d.reads in list1_due_from d.given d.end (shape_of m) h.0 d.utf8 d.boundary h.1 h.2
+list1_due {text} {m} {x} {t} {p} d row = let h = at_row row d.reads in list1_due_from d.given d.end (shape_of m) h.0 d row h.1 h.2
 
 inner_from : (text : List ℕ) (parts : List ℕ) (p q e : ℕ) (t : Tree) (given : List Tree) (o : Option (List Piece)) → Gives given e ≡ shaped text (Seq parts) Inner p (together p (with_piece (piece (t ∷ []) q) o)) → given ≡ t ∷ []
 inner_from text parts p q e t given None h = cc

@@ -1,6 +1,5 @@
 -- Items that are built one after another.
 use Rattle.std.proofs.Common.{◌≡◌, ◌≢◌, ℕ, ◌+◌, ◌≤◌, ◌<◌, List, [], ◌∷◌, ◌++◌, map, Some, None, refl, sym, subst, ap, ◌∙◌, arith, inl, inr}
-use Rattle.std.specs.Prelude.{IsUtf8, IsCharBoundary}
 use Rattle.std.proofs.lemmas.List.{append_assoc, append-nil}
 use Rattle.weedle_grammar.specs.Rows.{Row, Bytes, OneOf, NotNext, Run as RunOf, Past, Seq, First, Opt, Many, ListOf, List1, Tail, If}
 use Rattle.weedle_grammar.specs.Trees.{Tree, trees, Items, Gives}
@@ -9,13 +8,13 @@ use Rattle.weedle_grammar.specs.written.Table.{webidl, row_of, shape_of}
 use Rattle.weedle_grammar.proofs.Unique.{one_outcome}
 use Rattle.weedle_grammar.proofs.Inversion.{at_row, of_many}
 use Rattle.weedle_grammar.proofs.Exists.{grows}
-use Rattle.weedle_grammar.proofs.GrammarFacts.{at_boundary}
 use Rattle.weedle_rules.specs.Cells.{HasEnd}
 use Rattle.weedle_grammar.specs.Size.{size, total_size}
 use Rattle.weedle_grammar.proofs.Size.Lists.{size_trees, size_append}
 use Rattle.weedle_build_base.specs.Fits.{fits_many}
-use Rattle.weedle_build_base.specs.Built.{plus, Due, Builds, Visits}
+use Rattle.weedle_build_base.specs.Built.{plus, IsTried, Due, Builds, Visits}
 use Rattle.weedle_build_base.proofs.Finding.{absent, present}
+use Rattle.weedle_build_base.proofs.WantedFacts.{tried_here, goes_on}
 
 pub map_push : {V : Type 0} (f : V → Tree) (vs : List V) (v : V) → map f (vs ++ (v ∷ [])) ≡ map f vs ++ (f v ∷ [])
 map_push f [] v = refl
@@ -33,35 +32,42 @@ pub record Repeating (text : List ℕ) (x p v : ℕ) (ts : List Tree) (q w : ℕ
   pub left : ReadsRow webidl text (Many x) q (Yields given ends end)
   pub whole : (r : Raw) → ReadsRow webidl text (Many x) q r → ReadsRow webidl text (Many x) p (before ts r)
   pub counts : (k : ℕ) → plus w k ≡ plus v (total_size ts + k)
-  pub utf8 : IsUtf8 text
-  pub boundary : IsCharBoundary text q
+  -- the rule that repeats the item, at q
+  pub rule : ℕ
+  pub row : row_of rule ≡ Many x
+  pub due : Due text rule q
 
 pub before_none : (r : Raw) → r ≡ before [] r
 before_none Breaks = refl
 before_none (Yields us ends e) = refl
 
-start_from : {text : List ℕ} {x p e : ℕ} {ts : List Tree} (v : ℕ) (shape : Shape) (row : Row) (w : Raw) → IsUtf8 text → IsCharBoundary text p
+start_from : {text : List ℕ} {r x p e : ℕ} {ts : List Tree} (v : ℕ) (shape : Shape) (row : Row) (w : Raw) → Due text r p → row_of r ≡ Many x
     → ReadsRow webidl text (Many x) p w → Gives ts e ≡ shaped text row shape p w → Repeating text x p v [] p v
-start_from v shape row Breaks u b d h = cc
-start_from {text} {x} {p} v shape row (Yields us ends q) u b d h = record {
+start_from v shape row Breaks u k d h = cc
+start_from {text} {r} {x} {p} v shape row (Yields us ends q) u k d h = record {
   given = us;
   ends = ends;
   end = q;
   left = d;
   whole = λ r d. subst (λ z. ReadsRow webidl text (Many x) p z) (before_none r) d;
   counts = λ k. omega arith;
-  utf8 = u;
-  boundary = b;
+  rule = r;
+  row = k;
+  due = u;
 }
 
 -- at first
 pub repeating_start : {text : List ℕ} {r x p : ℕ} (v : ℕ) → Due text r p → Many x ≡ row_of r → Repeating text x p v [] p v
-repeating_start {text} {r} {x} {p} v d e = let h = at_row (sym e) d.reads in start_from v (shape_of r) (Many x) h.0 d.utf8 d.boundary h.1 h.2
+repeating_start {text} {r} {x} {p} v d e = let h = at_row (sym e) d.reads in start_from v (shape_of r) (Many x) h.0 d (sym e) h.1 h.2
 
 module _ {text : List ℕ} {x p v : ℕ} {ts : List Tree} {q w : ℕ} (h : Repeating text x p v ts q w) where
-  -- an item is due where the table has an end
+  -- an item is tried
+  pub item_tried : IsTried text x q
+  item_tried = tried_here h.due h.row (inl (refl, refl))
+
+  -- and due where the table has an end
   pub item_due : {e : ℕ} → HasEnd text x q (Some e) → Due text x q
-  item_due f = present h.utf8 h.boundary f
+  item_due f = present item_tried f
 
   module _ {t : Tree} {e z : ℕ} (g : Builds text x t q w e z) where
     next_from : (us : List Tree) (ends : List ℕ) (r : Raw) → q ≢ e → ReadsRow webidl text (Many x) e r → Yields h.given h.ends h.end ≡ before us r
@@ -74,8 +80,9 @@ module _ {text : List ℕ} {x p v : ℕ} {ts : List Tree} {q w : ℕ} (h : Repea
       left = d;
       whole = λ r d. subst (λ z. ReadsRow webidl text (Many x) p z) (before_more ts t r) (h.whole (before (t ∷ []) r) (many_more g.reads (λ s. n (sym s)) d refl));
       counts = λ k. let a = h.counts (size t + k) in omega (arith, g.counts, a, size_append ts (t ∷ []));
-      utf8 = h.utf8;
-      boundary = at_boundary text x q h.utf8 h.boundary (t ∷ []) e g.reads;
+      rule = h.rule;
+      row = h.row;
+      due = goes_on h.due h.row g.reads;
     }
 
     -- one more item

@@ -14,8 +14,10 @@ use Rattle.weedle_grammar.proofs.Exists.{grows}
 use Rattle.weedle_grammar.proofs.GrammarFacts.{at_boundary}
 use Rattle.weedle_grammar.proofs.Size.Lists.{size_trees, size_append}
 use Rattle.weedle_build_base.specs.Fits.{fits_list, fits_tail}
-use Rattle.weedle_build_base.specs.Built.{plus, Due, Builds, Visits, IsDueList, BuiltItems}
+use Rattle.weedle_memo.specs.Wanted.{Wanted}
+use Rattle.weedle_build_base.specs.Built.{plus, IsTried, Due, Builds, Visits, IsDueList, BuiltItems}
 use Rattle.weedle_build_base.proofs.Finding.{absent, present, found}
+use Rattle.weedle_build_base.proofs.WantedFacts.{wanted_by, tried_here, item_behind, goes_behind}
 use Rattle.weedle_build_base.proofs.Repeats.{before_more, before_none}
 
 -- the items behind separators from p on gave these trees; q is where the next separator begins. v and w are the counts there
@@ -27,13 +29,15 @@ pub record Tailing (text : List ℕ) (x s p v : ℕ) (ts : List Tree) (q w : ℕ
   pub whole : (r : Raw) → ReadsRow webidl text (Tail x s) q r → ReadsRow webidl text (Tail x s) p (before ts r)
   pub counts : (k : ℕ) → plus w k ≡ plus v (total_size ts + k)
   pub after : p ≤ q
-  pub utf8 : IsUtf8 text
-  pub boundary : IsCharBoundary text q
+  -- the rule of the items behind separators, at q
+  pub rule : ℕ
+  pub row : row_of rule ≡ Tail x s
+  pub due : Due text rule q
 
-tail_from : {text : List ℕ} {x s q : ℕ} (w : ℕ) (row : Row) (shape : Shape) (r : Raw) (us : List Tree) (e : ℕ) → IsUtf8 text → IsCharBoundary text q
+tail_from : {text : List ℕ} {t x s q : ℕ} (w : ℕ) (row : Row) (shape : Shape) (r : Raw) (us : List Tree) (e : ℕ) → Due text t q → row_of t ≡ Tail x s
     → ReadsRow webidl text (Tail x s) q r → Gives us e ≡ shaped text row shape q r → Tailing text x s q w [] q w
-tail_from w row shape Breaks us e u b d h = cc
-tail_from {text} {x} {s} {q} w row shape (Yields os ends z) us e u b d h = record {
+tail_from w row shape Breaks us e u k d h = cc
+tail_from {text} {t} {x} {s} {q} w row shape (Yields os ends z) us e u k d h = record {
   given = os;
   ends = ends;
   end = z;
@@ -41,22 +45,27 @@ tail_from {text} {x} {s} {q} w row shape (Yields os ends z) us e u b d h = recor
   whole = λ r d. subst (λ y. ReadsRow webidl text (Tail x s) q y) (before_none r) d;
   counts = λ k. omega arith;
   after = omega arith;
-  utf8 = u;
-  boundary = b;
+  rule = t;
+  row = k;
+  due = u;
 }
 
 -- behind the first item
 pub tailing_start : {text : List ℕ} {t x s q : ℕ} (w : ℕ) → Due text t q → row_of t ≡ Tail x s → Tailing text x s q w [] q w
-tailing_start {text} {t} {x} {s} {q} w d e = let a = at_row e d.reads in tail_from w (Tail x s) (shape_of t) a.0 d.given d.end d.utf8 d.boundary a.1 a.2
+tailing_start {text} {t} {x} {s} {q} w d e = let a = at_row e d.reads in tail_from w (Tail x s) (shape_of t) a.0 d.given d.end d e a.1 a.2
 
 module _ {text : List ℕ} {x s p v : ℕ} {ts : List Tree} {q w : ℕ} (h : Tailing text x s p v ts q w) where
+  -- a separator is tried
+  pub separator_tried : IsTried text s q
+  separator_tried = tried_here h.due h.row (inl (refl, refl))
+
   module _ {k : ℕ} (sep : HasEnd text s q (Some k)) where
-    -- an item is due behind it where the table has an end
-    pub behind_boundary : IsCharBoundary text k
-    behind_boundary = let f = found sep in at_boundary text s q h.utf8 h.boundary f.given k f.reads
+    -- an item is tried behind it, and due where the table has an end
+    pub behind_tried : IsTried text x k
+    behind_tried = let f = found sep in item_behind h.due h.row f.reads
 
     pub behind_due : {e : ℕ} → HasEnd text x k (Some e) → Due text x k
-    behind_due e = present h.utf8 behind_boundary e
+    behind_due e = present behind_tried e
 
     module _ {t : Tree} {e z : ℕ} (g : Builds text x t k w e z) where
       go_on : (us us' : List Tree) (ends : List ℕ) (r : Raw) → Reads text s q (Gives us k) → k ≢ q → ReadsRow webidl text (Tail x s) e r
@@ -70,8 +79,9 @@ module _ {text : List ℕ} {x s p v : ℕ} {ts : List Tree} {q w : ℕ} (h : Tai
         whole = λ r d. subst (λ b. ReadsRow webidl text (Tail x s) p b) (before_more ts t r) (h.whole (before (t ∷ []) r) (tail_more f n g.reads d refl));
         counts = λ j. let a = h.counts (size t + j) in omega (arith, g.counts, a, size_append ts (t ∷ []));
         after = let l : q ≤ k = grows webidl text f in let m : k ≤ e = grows webidl text g.reads in omega (arith, h.after);
-        utf8 = h.utf8;
-        boundary = at_boundary text x k h.utf8 behind_boundary (t ∷ []) e g.reads;
+        rule = h.rule;
+        row = h.row;
+        due = goes_behind h.due h.row f g.reads;
       }
 
       -- one more item, behind where it began
@@ -160,27 +170,27 @@ module _ {text : List ℕ} {x s p v : ℕ} {ts : List Tree} {q w : ℕ} (h : Lis
     listing_back sep f = items_from (tailing_back h.tail sep f)
 
 -- what follows the items of a list is due where the list is
-pub due_behind : {text : List ℕ} {t : ℕ} (row : Row) (shape : Shape) (p q : ℕ) (given ts : List Tree) (end : ℕ) (o : Outcome) → IsUtf8 text → IsCharBoundary text q
+pub due_behind : {text : List ℕ} {t : ℕ} (row : Row) (shape : Shape) (p q : ℕ) (given ts : List Tree) (end : ℕ) (o : Outcome) → Wanted text t q → IsUtf8 text → IsCharBoundary text q
     → Gives given end ≡ shaped text row shape p (before ts (raw_of o)) → Reads text t q o → Due text t q
-due_behind row shape p q given ts end Fails u b h d = cc
-due_behind row shape p q given ts end (Gives us z) u b h d = record { given = us; end = z; reads = d; utf8 = u; boundary = b }
+due_behind row shape p q given ts end Fails a u b h d = cc
+due_behind row shape p q given ts end (Gives us z) a u b h d = record { given = us; end = z; reads = d; wanted = a; utf8 = u; boundary = b }
 
 due_list_from : {text : List ℕ} {x t p : ℕ} (given : List Tree) (end : ℕ) (shape : Shape) (raw : Raw) → ReadsRow webidl text (ListOf x t) p raw → Gives given end ≡ shaped text (ListOf x t) shape p raw
-    → Due text x p → IsDueList text x t p
-due_list_from {text} {x} {t} {p} given end shape raw d h item = record {
+    → ((us : List Tree) (q : ℕ) → Reads text x p (Gives us q) → Wanted text t q) → Due text x p → IsDueList text x t p
+due_list_from {text} {x} {t} {p} given end shape raw d h wanted item = record {
   item = item;
   next = λ us q g. elim (of_list d) [
     | inl n ↦ absurd (let z = one_outcome n.0 g refl in cc)
     | inr m ↦ (let z = one_outcome m.3 g refl in
         let j : m.1 ≡ q = cc in
         let k : raw ≡ before m.0 (raw_of m.2) = m.5 in
-        due_behind (ListOf x t) shape p q given m.0 end m.2 item.utf8 (at_boundary text x p item.utf8 item.boundary us q g) (h ∙ ap (shaped text (ListOf x t) shape p) k) (subst (λ y. Reads text t y m.2) j m.4))
+        due_behind (ListOf x t) shape p q given m.0 end m.2 (wanted us q g) item.utf8 (at_boundary text x p item.utf8 item.boundary us q g) (h ∙ ap (shaped text (ListOf x t) shape p) k) (subst (λ y. Reads text t y m.2) j m.4))
   ];
 }
 
 -- a list where an item is next
 pub due_list : {text : List ℕ} {r x t p : ℕ} → Due text r p → row_of r ≡ ListOf x t → Due text x p → IsDueList text x t p
-due_list {text} {r} {x} {t} {p} d row item = let h = at_row row d.reads in due_list_from d.given d.end (shape_of r) h.0 h.1 h.2 item
+due_list {text} {r} {x} {t} {p} d row item = let h = at_row row d.reads in due_list_from d.given d.end (shape_of r) h.0 h.1 h.2 (λ us q g. wanted_by d row (inr (q, (us, g), (refl, refl)))) item
 
 -- what was built of a list
 pub list_built : {text : List ℕ} {r x t p v q w y a : ℕ} {ts : List Tree} → row_of r ≡ ListOf x t → shape_of r ≡ Plain → BuiltItems text x t p v ts q w → Visits q w y a

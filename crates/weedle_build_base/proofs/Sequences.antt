@@ -9,14 +9,16 @@ use Rattle.weedle_grammar.proofs.Unique.{one_outcome}
 use Rattle.weedle_grammar.proofs.Inversion.{parts_of, of_parts, at_row}
 use Rattle.weedle_grammar.proofs.GrammarFacts.{at_boundary}
 use Rattle.weedle_grammar.proofs.Size.Lists.{size_trees}
+use Rattle.weedle_starts.specs.Tries.{RowTries, TriesInTurn}
+use Rattle.weedle_memo.specs.Wanted.{Wanted, by}
 use Rattle.weedle_build_base.specs.Fits.{list_of, fits_seq, then_fits, end_fits}
 use Rattle.weedle_build_base.specs.Built.{Rest, Run, Due, Found, Builds, Visits}
 
-module _ {text rs : List ℕ} {p : ℕ} (utf8 : IsUtf8 text) (boundary : IsCharBoundary text p) where
+module _ {text rs : List ℕ} {p : ℕ} (wanted : (x q : ℕ) → TriesInTurn text rs p x q → Wanted text x q) (utf8 : IsUtf8 text) (boundary : IsCharBoundary text p) where
   rest_from : (row : Row) (shape : Shape) (o : Option (List Piece)) (ts : List Tree) (e : ℕ) → ReadsSeq webidl text rs p o
       → Gives ts e ≡ shaped text row shape p (together p o) → Rest text rs p
   rest_from row shape None ts e d h = cc
-  rest_from row shape (Some pieces) ts e d h = record { pieces = pieces; reads = d; utf8 = utf8; boundary = boundary }
+  rest_from row shape (Some pieces) ts e d h = record { pieces = pieces; reads = d; wanted = wanted; utf8 = utf8; boundary = boundary }
 
 -- the parts of a sequence, or of one that something may follow
 abbrev pub row_parts : Row → Option (List ℕ)
@@ -24,21 +26,21 @@ row_parts (Seq parts) = Some parts
 row_parts (If parts k y) = Some parts
 row_parts _ = None
 
-if_rest : {text rs : List ℕ} {k y p : ℕ} {w : Raw} {ts : List Tree} {e : ℕ} (row : Row) (shape : Shape) → IsUtf8 text → IsCharBoundary text p
+if_rest : {text rs : List ℕ} {k y p : ℕ} {w : Raw} {ts : List Tree} {e : ℕ} (row : Row) (shape : Shape) → ((x q : ℕ) → TriesInTurn text rs p x q → Wanted text x q) → IsUtf8 text → IsCharBoundary text p
     → ReadsRow webidl text (If rs k y) p w → Gives ts e ≡ shaped text row shape p w → Rest text rs p
-if_rest row shape u b (if_fails d f) h = let z = f in cc
-if_rest row shape u b (if_absent d g f) h = record { pieces = _; reads = d; utf8 = u; boundary = b }
-if_rest row shape u b (if_present d g m f) h = record { pieces = _; reads = d; utf8 = u; boundary = b }
+if_rest row shape a u b (if_fails d f) h = let z = f in cc
+if_rest row shape a u b (if_absent d g f) h = record { pieces = _; reads = d; wanted = a; utf8 = u; boundary = b }
+if_rest row shape a u b (if_present d g m f) h = record { pieces = _; reads = d; wanted = a; utf8 = u; boundary = b }
 
 pub row_rest : {text rs : List ℕ} {r p : ℕ} → Due text r p → (row : Row) → row_of r ≡ row → row_parts row ≡ Some rs → Rest text rs p
 row_rest {text} {rs} {r} {p} d (Seq parts) e f =
     let h = parts_of e d.reads in
     let q : parts ≡ rs = cc in
-    subst (λ xs. Rest text xs p) q (rest_from d.utf8 d.boundary (Seq parts) (shape_of r) h.0 d.given d.end h.1 h.2)
+    subst (λ xs. Rest text xs p) q (rest_from {text = text} {rs = parts} {p = p} (λ x z k. by d.wanted (d.given, d.reads) (subst (λ row. RowTries text row r p x z) (sym e) k)) d.utf8 d.boundary (Seq parts) (shape_of r) h.0 d.given d.end h.1 h.2)
 row_rest {text} {rs} {r} {p} d (If parts k y) e f =
     let h = at_row e d.reads in
     let q : parts ≡ rs = cc in
-    subst (λ xs. Rest text xs p) q (if_rest (If parts k y) (shape_of r) d.utf8 d.boundary h.1 h.2)
+    subst (λ xs. Rest text xs p) q (if_rest {text = text} {rs = parts} {p = p} (If parts k y) (shape_of r) (λ x z m. by d.wanted (d.given, d.reads) (subst (λ row. RowTries text row r p x z) (sym e) (inl m))) d.utf8 d.boundary h.1 h.2)
 row_rest d (Bytes b) e f = cc
 row_rest d (OneOf c) e f = cc
 row_rest d (NotNext c) e f = cc
@@ -59,13 +61,13 @@ rest_of_row {text} {rs} {r} {p} d row = row_rest d (Seq rs) row refl
 pub front : {text rs : List ℕ} {r p : ℕ} → Rest text (r ∷ rs) p → Due text r p
 front {text} {rs} {r} {p} h = elim (of_parts h.reads) [
   | inl f ↦ absurd (let e = f.1 in cc)
-  | inr m ↦ record { given = m.0; end = m.1; reads = m.3; utf8 = h.utf8; boundary = h.boundary }
+  | inr m ↦ record { given = m.0; end = m.1; reads = m.3; wanted = h.wanted r p (inl (refl, refl)); utf8 = h.utf8; boundary = h.boundary }
 ]
 
-module _ {text rs : List ℕ} {q : ℕ} (utf8 : IsUtf8 text) (boundary : IsCharBoundary text q) where
+module _ {text rs : List ℕ} {q : ℕ} (wanted : (x z : ℕ) → TriesInTurn text rs q x z → Wanted text x z) (utf8 : IsUtf8 text) (boundary : IsCharBoundary text q) where
   rest_after : (ts : List Tree) (pieces : List Piece) (o : Option (List Piece)) → ReadsSeq webidl text rs q o → Some pieces ≡ with_piece (piece ts q) o → Rest text rs q
   rest_after ts pieces None d e = cc
-  rest_after ts pieces (Some ps) d e = record { pieces = ps; reads = d; utf8 = utf8; boundary = boundary }
+  rest_after ts pieces (Some ps) d e = record { pieces = ps; reads = d; wanted = wanted; utf8 = utf8; boundary = boundary }
 
 -- where the first part ends, the others read something
 pub next_found : {text rs : List ℕ} {r p q : ℕ} → Found text r p q → Rest text (r ∷ rs) p → Rest text rs q
@@ -73,7 +75,7 @@ next_found {text} {rs} {r} {p} {q} g h = elim (of_parts h.reads) [
   | inl f ↦ absurd (let e = f.1 in cc)
   | inr m ↦ (let same = one_outcome m.3 g.reads refl in
       let z : m.1 ≡ q = cc in
-      rest_after h.utf8 (at_boundary text r p h.utf8 h.boundary g.given q g.reads) m.0 h.pieces m.2 (subst (λ x. ReadsSeq webidl text rs x m.2) z m.4) cc)
+      rest_after {text = text} {rs = rs} {q = q} (λ x y k. h.wanted x y (inr (q, (g.given, g.reads), k))) h.utf8 (at_boundary text r p h.utf8 h.boundary g.given q g.reads) m.0 h.pieces m.2 (subst (λ x. ReadsSeq webidl text rs x m.2) z m.4) cc)
 ]
 
 -- behind a part that was built are the other parts

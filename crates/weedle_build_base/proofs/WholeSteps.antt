@@ -14,6 +14,7 @@ use Rattle.weedle_grammar.proofs.Exists.{advances, stays_inside}
 use Rattle.weedle_grammar.proofs.GrammarFacts.{one, at_boundary}
 use Rattle.weedle_grammar.proofs.Size.{bounded}
 use Rattle.weedle_grammar.specs.Size.{size, total_size}
+use Rattle.weedle_memo.specs.Wanted.{at_first}
 use Rattle.weedle_build_base.specs.Built.{Due, Builds}
 
 before_breaks : (ts : List Tree) (w : Raw) → before ts w ≡ Breaks → w ≡ Breaks
@@ -32,7 +33,7 @@ shaped_fails text row shape p (Yields ts ends q) e = cc
 
 whole_from : {text : List ℕ} (o : Outcome) → IsUtf8 text → Reads text DEFINITIONS 0 o → Due text DEFINITIONS 0
 whole_from {text} Fails u d = absurd (let h = at_row {row = Many DEFINITION} refl d in many_goes h.1 refl (shaped_fails text (Many DEFINITION) (shape_of DEFINITIONS) 0 h.0 h.2))
-whole_from {text} (Gives ts e) u d = record { given = ts; end = e; reads = d; utf8 = u; boundary = IsCharBoundary-start text u }
+whole_from {text} (Gives ts e) u d = record { given = ts; end = e; reads = d; wanted = at_first (refl, refl); utf8 = u; boundary = IsCharBoundary-start text u }
 
 -- the whole reads something on each text
 pub whole_due : (text : List ℕ) → IsUtf8 text → Due text DEFINITIONS 0

@@ -3,6 +3,8 @@ use Rattle.std.specs.Prelude.{◌≡◌, ℕ, ◌+◌, ◌-◌, ◌^◌, min, Li
 use Rattle.weedle_build_base.specs.declared.at.At.{At}
 use Rattle.weedle_grammar.specs.Trees.{Tree, Alt, Gives}
 use Rattle.weedle_grammar.specs.written.Table.{webidl, row_of, Reads}
+use Rattle.weedle_starts.specs.Tries.{TriesInTurn}
+use Rattle.weedle_memo.specs.Wanted.{Wanted}
 use Rattle.weedle_build_base.specs.Fits.{firsts}
 use Rattle.weedle_grammar.specs.Size.{size, total_size}
 use Rattle.weedle_grammar.specs.Meaning.{Piece, ReadsSeq, given_of, last_end}
@@ -11,11 +13,18 @@ use Rattle.weedle_grammar.specs.Meaning.{Piece, ReadsSeq, given_of, last_end}
 abbrev pub plus : ℕ → ℕ → ℕ
 plus count more = min (count + more) (2 ^ 128 - 1)
 
--- the rule reads something at the place, where a character of the text begins
+-- the rule is tried at the place by what is read of the text, and a character begins there
+pub record IsTried (text : List ℕ) (r p : ℕ) : Type 0 where
+  pub wanted : Wanted text r p
+  pub utf8 : IsUtf8 text
+  pub boundary : IsCharBoundary text p
+
+-- the rule is tried at the place, and reads something there
 pub record Due (text : List ℕ) (r p : ℕ) : Type 0 where
   pub given : List Tree
   pub end : ℕ
   pub reads : Reads text r p (Gives given end)
+  pub wanted : Wanted text r p
   pub utf8 : IsUtf8 text
   pub boundary : IsCharBoundary text p
 
@@ -34,10 +43,11 @@ pub record Found (text : List ℕ) (r p e : ℕ) : Type 0 where
   pub given : List Tree
   pub reads : Reads text r p (Gives given e)
 
--- the rules read something one after another from the place
+-- the rules are tried one after another from the place, and each reads something
 pub record Rest (text : List ℕ) (rs : List ℕ) (p : ℕ) : Type 0 where
   pub pieces : List Piece
   pub reads : ReadsSeq webidl text rs p (Some pieces)
+  pub wanted : (x q : ℕ) → TriesInTurn text rs p x q → Wanted text x q
   pub utf8 : IsUtf8 text
   pub boundary : IsCharBoundary text p
 

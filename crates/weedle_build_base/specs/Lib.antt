@@ -1,4 +1,5 @@
 pub mod Built
 pub mod Fits
+pub mod Table
 pub mod Tuples
 pub mod Whole

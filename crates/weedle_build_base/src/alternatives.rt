@@ -21,15 +21,16 @@ ghost use Rattle.weedle_build_base.specs.Fits.{firsts, is_choice, fits_first};
 
 use crate::at::At;
 use crate::build::{Build, BuildResult, visit};
+use crate::table::Table;
 use std::alloc::Global;
-use weedle_rules::{Ends, Row, Rule, row_of};
+use weedle_rules::{Row, Rule, row_of};
 
 /// The number of the first alternative that fits, counted from 0. It looks at the end of each
 /// alternative up to it, and takes no memory.
-pub fn choice(table: &Ends, rule: Rule, place: usize) -> usize
+pub fn choice(table: Table<'_, '_>, rule: Rule, place: usize) -> usize
     requires row { IsTrue (is_choice (row_of_rule rule) (shape_of rule)) }
-    requires due { Due table.now.text rule place }
-    ensures { IsChosen table.now.text rule place result }
+    requires due { Due table.text.now rule place }
+    ensures { IsChosen table.entry.text.now rule place result }
 {
     let Row::First(parts) = row_of(rule) else {
         unreachable!()
@@ -64,14 +65,14 @@ pub fn alternative_rule(rule: Rule, i: usize) -> Rule
 /// and visits the node of the choice. It is refused where the value is.
 pub fn alternative<'a, T: Build<'a>>(
     alloc: Global,
-    table: &Ends<'a>,
+    table: Table<'_, 'a>,
     rule: Rule,
     i: usize,
     at: At,
 ) -> BuildResult<T::Value>
     requires fit { fits_first T.fits i (row_of_rule rule) }
-    requires chosen { IsChosen table.now.text rule at.place i }
-    ensures { Answers table.now.text rule (λ v. Alt i (T.tree v)) at.place at.visits result }
+    requires chosen { IsChosen table.text.now rule at.place i }
+    ensures { Answers table.entry.text.now rule (λ v. Alt i (T.tree v)) at.place at.visits result }
 {
     let (value, at) = T::build(alloc, table, alternative_rule(rule, i), at)?;
     Ok((value, visit(at)))

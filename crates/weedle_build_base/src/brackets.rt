@@ -23,6 +23,7 @@ ghost use Rattle.weedle_build_base.specs.Fits.{fits_seq, bracket_fits, may_be_nu
 use crate::at::At;
 use crate::build::{Build, BuildResult};
 use crate::structs::{three_fields, two_fields};
+use crate::table::Table;
 use std::alloc::Global;
 use weedle_base::term::{
     CloseBrace, CloseBracket, CloseParen, GreaterThan, LessThan, OpenBrace, OpenBracket, OpenParen,
@@ -30,7 +31,7 @@ use weedle_base::term::{
 };
 use weedle_parts::common::{Braced, Bracketed, Generics, Parenthesized};
 use weedle_parts::types::MayBeNull;
-use weedle_rules::{Ends, Rule};
+use weedle_rules::Rule;
 
 impl<'a, T: Build<'a>> Build<'a> for Parenthesized<T> {
     type Value = Parenthesized<T::Value>;
@@ -42,7 +43,7 @@ impl<'a, T: Build<'a>> Build<'a> for Parenthesized<T> {
 
     fn build(
         alloc: Global,
-        table: &Ends<'a>,
+        table: Table<'_, 'a>,
         rule: Rule,
         at: At,
     ) -> BuildResult<Parenthesized<T::Value>> {
@@ -70,7 +71,7 @@ impl<'a, T: Build<'a>> Build<'a> for Bracketed<T> {
 
     fn build(
         alloc: Global,
-        table: &Ends<'a>,
+        table: Table<'_, 'a>,
         rule: Rule,
         at: At,
     ) -> BuildResult<Bracketed<T::Value>> {
@@ -98,7 +99,12 @@ impl<'a, T: Build<'a>> Build<'a> for Braced<T> {
 
     ghost tree = { braced_tree T.tree };
 
-    fn build(alloc: Global, table: &Ends<'a>, rule: Rule, at: At) -> BuildResult<Braced<T::Value>> {
+    fn build(
+        alloc: Global,
+        table: Table<'_, 'a>,
+        rule: Rule,
+        at: At,
+    ) -> BuildResult<Braced<T::Value>> {
         let ((open_brace, body, close_brace), at) = three_fields::<OpenBrace, T, CloseBrace>(
             alloc, table, rule, at,
         )?;
@@ -123,7 +129,7 @@ impl<'a, T: Build<'a>> Build<'a> for Generics<T> {
 
     fn build(
         alloc: Global,
-        table: &Ends<'a>,
+        table: Table<'_, 'a>,
         rule: Rule,
         at: At,
     ) -> BuildResult<Generics<T::Value>> {
@@ -150,7 +156,7 @@ impl<'a, T: Build<'a>> Build<'a> for MayBeNull<T> {
 
     fn build(
         alloc: Global,
-        table: &Ends<'a>,
+        table: Table<'_, 'a>,
         rule: Rule,
         at: At,
     ) -> BuildResult<MayBeNull<T::Value>> {

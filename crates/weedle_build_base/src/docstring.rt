@@ -9,21 +9,21 @@ ghost use Rattle.weedle_build_base.specs.Built.{Due};
 
 use crate::at::At;
 use crate::build::{Build, BuildResult, end_at, visit};
+use crate::table::Table;
 use std::alloc::Global;
 use weedle_base::push_line;
 use weedle_parts::common::Docstring;
-use weedle_rules::{Ends, Rule};
+use weedle_rules::Rule;
 
 /// The text of the line at a place, without its LF, and where the next one begins.
-fn doc_line<'a>(table: &Ends<'a>, place: usize) -> (&'a str, usize)
-    requires { Due table.now.text DOC_LINE place }
-    ensures { Reads table.now.text DOC_LINE place (Gives (Lines result.0.now ∷ []) result.1) }
+fn doc_line<'a>(table: Table<'_, 'a>, place: usize) -> (&'a str, usize)
+    requires { Due table.text.now DOC_LINE place }
+    ensures { Reads table.entry.text.now DOC_LINE place (Gives (Lines result.0.now ∷ []) result.1) }
 {
     let blanks = end_at(table, Rule::RUN_BLANK, place);
     let start = end_at(table, Rule::BYTES_THREE_SLASHES, blanks);
     let end = end_at(table, Rule::DOC_LINE, place);
-    let text = table.text();
-    (&text[start..end - 1], end)
+    (&table.text[start..end - 1], end)
 }
 
 impl<'a> Build<'a> for Docstring {
@@ -33,10 +33,10 @@ impl<'a> Build<'a> for Docstring {
 
     ghost tree = { docstring_tree };
 
-    fn build(alloc: Global, table: &Ends<'a>, _rule: Rule, at: At) -> BuildResult<Self> {
+    fn build(alloc: Global, table: Table<'_, 'a>, _rule: Rule, at: At) -> BuildResult<Self> {
         let (first, mut place) = doc_line(table, at.place);
         let mut text = String::from_str(alloc, first)?;
-        while let Some(_) = table.end(Rule::DOC_LINE, place) {
+        'lines: while let Some(_) = table.end(Rule::DOC_LINE, place) {
             let (line, next) = doc_line(table, place);
             push_line(&mut text, line)?;
             place = next;

@@ -8,8 +8,9 @@ ghost use Rattle.weedle_build_base.specs.Fits.{list_of, then_fits, end_fits, fit
 
 use crate::at::At;
 use crate::build::{Build, BuildResult, visit};
+use crate::table::Table;
 use std::alloc::Global;
-use weedle_rules::{Ends, Row, Rule, row_of};
+use weedle_rules::{Row, Rule, row_of};
 
 /// The rule at a place of a sequence, counted from 0; None from the end on, and of other rows. It
 /// takes no memory.
@@ -41,14 +42,14 @@ pub trait Fields<'a> {
     /// alone.
     fn build_fields(
         alloc: Global,
-        table: &Ends<'a>,
+        table: Table<'_, 'a>,
         rule: Rule,
         first: usize,
         at: At,
     ) -> BuildResult<Self::Values>
         requires fit { fits (drop first (list_of (row_of_rule rule))) }
-        requires due { Rest table.now.text (drop first (list_of (row_of_rule rule))) at.place }
-        ensures { FieldAnswers table.now.text (drop first (list_of (row_of_rule rule))) trees
+        requires due { Rest table.text.now (drop first (list_of (row_of_rule rule))) at.place }
+        ensures { FieldAnswers table.entry.text.now (drop first (list_of (row_of_rule rule))) trees
             at.place at.visits result };
 }
 
@@ -65,7 +66,7 @@ impl<'a, A: Build<'a>> Fields<'a> for Last<A> {
 
     fn build_fields(
         alloc: Global,
-        table: &Ends<'a>,
+        table: Table<'_, 'a>,
         rule: Rule,
         first: usize,
         at: At,
@@ -87,7 +88,7 @@ impl<'a, A: Build<'a>, P: Fields<'a>> Fields<'a> for (A, P) {
 
     fn build_fields(
         alloc: Global,
-        table: &Ends<'a>,
+        table: Table<'_, 'a>,
         rule: Rule,
         first: usize,
         at: At,
@@ -106,13 +107,13 @@ impl<'a, A: Build<'a>, P: Fields<'a>> Fields<'a> for (A, P) {
 /// a field is.
 pub fn sequence<'a, P: Fields<'a>>(
     alloc: Global,
-    table: &Ends<'a>,
+    table: Table<'_, 'a>,
     rule: Rule,
     at: At,
 ) -> BuildResult<P::Values>
     requires fit { fits_seq P.fits (row_of_rule rule) (shape_of rule) }
-    requires due { Due table.now.text rule at.place }
-    ensures { Answers table.now.text rule (λ fields. Node (trees (P.trees fields))) at.place
+    requires due { Due table.text.now rule at.place }
+    ensures { Answers table.entry.text.now rule (λ fields. Node (trees (P.trees fields))) at.place
         at.visits result }
 {
     let (fields, at) = P::build_fields(alloc, table, rule, 0, at)?;

@@ -14,8 +14,9 @@ ghost use Rattle.weedle_build_base.specs.Tuples.{pair_tree, triple_tree};
 use crate::at::At;
 use crate::build::{Build, BuildResult, visit};
 use crate::structs::{three_fields, two_fields};
+use crate::table::Table;
 use std::alloc::Global;
-use weedle_rules::{Ends, Row, Rule, row_of};
+use weedle_rules::{Row, Rule, row_of};
 
 impl<'a, T: Build<'a>> Build<'a> for Option<T> {
     type Value = Option<T::Value>;
@@ -24,7 +25,12 @@ impl<'a, T: Build<'a>> Build<'a> for Option<T> {
 
     ghost tree = { option_tree T.tree };
 
-    fn build(alloc: Global, table: &Ends<'a>, rule: Rule, at: At) -> BuildResult<Option<T::Value>> {
+    fn build(
+        alloc: Global,
+        table: Table<'_, 'a>,
+        rule: Rule,
+        at: At,
+    ) -> BuildResult<Option<T::Value>> {
         let Row::Opt(item) = row_of(rule) else {
             unreachable!()
         };
@@ -45,13 +51,18 @@ impl<'a, T: Build<'a>> Build<'a> for Vec<T> {
 
     ghost tree = { λ v. items_tree T.tree v.items };
 
-    fn build(alloc: Global, table: &Ends<'a>, rule: Rule, at: At) -> BuildResult<Vec<T::Value>> {
+    fn build(
+        alloc: Global,
+        table: Table<'_, 'a>,
+        rule: Rule,
+        at: At,
+    ) -> BuildResult<Vec<T::Value>> {
         let Row::Many(item) = row_of(rule) else {
             unreachable!()
         };
         let mut list = Vec::new(alloc);
         let mut here = at;
-        while let Some(_) = table.end(item, here.place) {
+        'items: while let Some(_) = table.end(item, here.place) {
             let (value, next) = T::build(alloc, table, item, here)?;
             list.push(value)?;
             here = next;
@@ -67,7 +78,12 @@ impl<'a, T: Build<'a>> Build<'a> for Box<T> {
 
     ghost tree = { λ b. T.tree b.value };
 
-    fn build(alloc: Global, table: &Ends<'a>, rule: Rule, at: At) -> BuildResult<Box<T::Value>> {
+    fn build(
+        alloc: Global,
+        table: Table<'_, 'a>,
+        rule: Rule,
+        at: At,
+    ) -> BuildResult<Box<T::Value>> {
         let (value, at) = T::build(alloc, table, rule, at)?;
         let held = Box::new(alloc, value)?;
         Ok((held, at))
@@ -84,7 +100,7 @@ impl<'a, T: Build<'a>, U: Build<'a>> Build<'a> for (T, U) {
 
     fn build(
         alloc: Global,
-        table: &Ends<'a>,
+        table: Table<'_, 'a>,
         rule: Rule,
         at: At,
     ) -> BuildResult<(T::Value, U::Value)> {
@@ -102,7 +118,7 @@ impl<'a, T: Build<'a>, U: Build<'a>, V: Build<'a>> Build<'a> for (T, U, V) {
 
     fn build(
         alloc: Global,
-        table: &Ends<'a>,
+        table: Table<'_, 'a>,
         rule: Rule,
         at: At,
     ) -> BuildResult<(T::Value, U::Value, V::Value)> {

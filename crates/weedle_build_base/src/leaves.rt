@@ -21,11 +21,12 @@ ghost use Rattle.weedle_parts.specs.LiteralTrees.{
 
 use crate::at::At;
 use crate::build::{Build, BuildResult};
+use crate::table::Table;
 use crate::texts::kept;
 use std::alloc::Global;
 use weedle_parts::common::Identifier;
 use weedle_parts::literal::{DecLit, FloatValueLit, HexLit, OctLit, StringLit};
-use weedle_rules::{Ends, Rule};
+use weedle_rules::Rule;
 
 impl<'a> Build<'a> for Identifier<'a> {
     type Value = Self;
@@ -34,7 +35,7 @@ impl<'a> Build<'a> for Identifier<'a> {
 
     ghost tree = { identifier_tree };
 
-    fn build(_alloc: Global, table: &Ends<'a>, _rule: Rule, at: At) -> BuildResult<Self> {
+    fn build(_alloc: Global, table: Table<'_, 'a>, _rule: Rule, at: At) -> BuildResult<Self> {
         let (text, at) = kept(table, Rule::IDENTIFIER, 2, at);
         Ok((Identifier(text), at))
     }
@@ -47,7 +48,7 @@ impl<'a> Build<'a> for DecLit<'a> {
 
     ghost tree = { dec_tree };
 
-    fn build(_alloc: Global, table: &Ends<'a>, _rule: Rule, at: At) -> BuildResult<Self> {
+    fn build(_alloc: Global, table: Table<'_, 'a>, _rule: Rule, at: At) -> BuildResult<Self> {
         let (text, at) = kept(table, Rule::DEC_LIT, 1, at);
         Ok((DecLit(text), at))
     }
@@ -60,7 +61,7 @@ impl<'a> Build<'a> for HexLit<'a> {
 
     ghost tree = { hex_tree };
 
-    fn build(_alloc: Global, table: &Ends<'a>, _rule: Rule, at: At) -> BuildResult<Self> {
+    fn build(_alloc: Global, table: Table<'_, 'a>, _rule: Rule, at: At) -> BuildResult<Self> {
         let (text, at) = kept(table, Rule::HEX_LIT, 1, at);
         Ok((HexLit(text), at))
     }
@@ -73,7 +74,7 @@ impl<'a> Build<'a> for OctLit<'a> {
 
     ghost tree = { oct_tree };
 
-    fn build(_alloc: Global, table: &Ends<'a>, _rule: Rule, at: At) -> BuildResult<Self> {
+    fn build(_alloc: Global, table: Table<'_, 'a>, _rule: Rule, at: At) -> BuildResult<Self> {
         let (text, at) = kept(table, Rule::OCT_LIT, 1, at);
         Ok((OctLit(text), at))
     }
@@ -86,7 +87,7 @@ impl<'a> Build<'a> for FloatValueLit<'a> {
 
     ghost tree = { float_value_tree };
 
-    fn build(_alloc: Global, table: &Ends<'a>, _rule: Rule, at: At) -> BuildResult<Self> {
+    fn build(_alloc: Global, table: Table<'_, 'a>, _rule: Rule, at: At) -> BuildResult<Self> {
         let (text, at) = kept(table, Rule::FLOAT_VALUE_LIT, 1, at);
         Ok((FloatValueLit(text), at))
     }
@@ -99,7 +100,7 @@ impl<'a> Build<'a> for StringLit<'a> {
 
     ghost tree = { string_tree };
 
-    fn build(_alloc: Global, table: &Ends<'a>, _rule: Rule, at: At) -> BuildResult<Self> {
+    fn build(_alloc: Global, table: Table<'_, 'a>, _rule: Rule, at: At) -> BuildResult<Self> {
         let (text, at) = kept(table, Rule::STRING_LIT, 2, at);
         Ok((StringLit(text), at))
     }

@@ -1,14 +1,15 @@
-//! The second pass over a text: its values, built along its packrat table.
+//! The second pass over a text: its values, built along its packrat table or along a memo.
 //!
 //! ```rust
-//! use weedle_build_base::{At, Build};
-//! use weedle_parts::literal::DecLit;
+//! use weedle_build_base::{At, Build, Table};
+//! use weedle_parts::common::Identifier;
 //! use weedle_rules::{Ends, Rule};
 //!
-//! let ends = Ends::new(rt.alloc(), "12;")?;
-//! let front = At { place: 0, visits: 0 };
-//! let (number, end) = DecLit::build(rt.alloc(), &ends, Rule::DEC_LIT, front)?;
-//! assert!(rt; number == DecLit("12") && end.place == 2 && end.visits == 1);
+//! let ends = Ends::new(rt.alloc(), "enum E {};")?;
+//! let name = At { place: 5, visits: 0 };
+//! let table = Table::of_ends(&ends);
+//! let (name, end) = Identifier::build(rt.alloc(), table, Rule::IDENTIFIER, name)?;
+//! assert!(rt; name == Identifier("E") && end.place == 7 && end.visits == 1);
 //! ```
 //!
 //! [`Build`] says how the values of a type are built. It is here for the types that hold no other
@@ -25,6 +26,7 @@ mod generic;
 mod leaves;
 mod lists;
 mod structs;
+mod table;
 mod texts;
 mod whole;
 mod written;
@@ -37,5 +39,6 @@ pub use lists::items;
 pub use structs::{
     eight_fields, five_fields, four_fields, seven_fields, six_fields, three_fields, two_fields,
 };
+pub use table::Table;
 pub use texts::kept;
 pub use whole::build_front;

@@ -10,24 +10,25 @@ ghost use Rattle.weedle_build_base.specs.Fits.{fits_tail, fits_list, fits_non_em
 use crate::at::At;
 use crate::build::{Build, BuildResult, end_at, visit};
 use crate::fields::part;
+use crate::table::Table;
 use std::alloc::Global;
 use weedle_parts::common::{Punctuated, PunctuatedNonEmpty};
-use weedle_rules::{Ends, Row, Rule, row_of};
+use weedle_rules::{Row, Rule, row_of};
 
 /// Builds the items of a list that has one at the place `at`, each behind a separator except for
 /// the first: `item` reads an item, and `tail` the items behind the first. A separator that no item
 /// follows is left. It takes the memory that the items hold, and is refused for lack of it alone.
 pub fn items<'a, T: Build<'a>>(
     alloc: Global,
-    table: &Ends<'a>,
+    table: Table<'_, 'a>,
     item: Rule,
     tail: Rule,
     at: At,
 ) -> BuildResult<Vec<T::Value>>
     requires fit { T.fits item }
     requires tail { fits_tail item (row_of_rule tail) (shape_of tail) }
-    requires due { IsDueList table.now.text item tail at.place }
-    ensures { ItemAnswers table.now.text item tail (λ (l : Vec T.Value). map T.tree l.items)
+    requires due { IsDueList table.text.now item tail at.place }
+    ensures { ItemAnswers table.entry.text.now item tail (λ (l : Vec T.Value). map T.tree l.items)
         at.place at.visits result }
 {
     let Row::Tail(_, separator) = row_of(tail) else {
@@ -60,7 +61,7 @@ impl<'a, T: Build<'a>, S: Default + Drop> Build<'a> for Punctuated<T, S> {
 
     fn build(
         alloc: Global,
-        table: &Ends<'a>,
+        table: Table<'_, 'a>,
         rule: Rule,
         at: At,
     ) -> BuildResult<Punctuated<T::Value, S>> {
@@ -86,7 +87,7 @@ impl<'a, T: Build<'a>, S: Default + Drop> Build<'a> for PunctuatedNonEmpty<T, S>
 
     fn build(
         alloc: Global,
-        table: &Ends<'a>,
+        table: Table<'_, 'a>,
         rule: Rule,
         at: At,
     ) -> BuildResult<PunctuatedNonEmpty<T::Value, S>> {

@@ -16,22 +16,23 @@ ghost use Rattle.weedle_build_base.specs.Fits.{then_fits, end_fits, fits_seq};
 use crate::at::At;
 use crate::build::{Build, BuildResult};
 use crate::fields::{Last, sequence};
+use crate::table::Table;
 use std::alloc::Global;
-use weedle_rules::{Ends, Rule};
+use weedle_rules::Rule;
 
 /// Builds the two fields of a struct, which `rule` reads one after another, and visits its node.
 /// `at` is a place where `rule` reads them, with the nodes that were visited before. It answers the
 /// values, and where the rule ends; it is refused where a field is.
 pub fn two_fields<'a, A: Build<'a>, B: Build<'a>>(
     alloc: Global,
-    table: &Ends<'a>,
+    table: Table<'_, 'a>,
     rule: Rule,
     at: At,
 ) -> BuildResult<(A::Value, B::Value)>
     requires fit { fits_seq (then_fits A.fits (then_fits B.fits end_fits)) (row_of_rule rule)
         (shape_of rule) }
-    requires due { Due table.now.text rule at.place }
-    ensures { Answers table.now.text rule (λ v. Node (trees (A.tree v.0 ∷ B.tree v.1 ∷ [])))
+    requires due { Due table.text.now rule at.place }
+    ensures { Answers table.entry.text.now rule (λ v. Node (trees (A.tree v.0 ∷ B.tree v.1 ∷ [])))
         at.place at.visits result }
 {
     let ((first, Last(second)), at) = sequence::<(A, Last<B>)>(alloc, table, rule, at)?;
@@ -43,14 +44,14 @@ pub fn two_fields<'a, A: Build<'a>, B: Build<'a>>(
 /// values, and where the rule ends; it is refused where a field is.
 pub fn three_fields<'a, A: Build<'a>, B: Build<'a>, C: Build<'a>>(
     alloc: Global,
-    table: &Ends<'a>,
+    table: Table<'_, 'a>,
     rule: Rule,
     at: At,
 ) -> BuildResult<(A::Value, B::Value, C::Value)>
     requires fit { fits_seq (then_fits A.fits (then_fits B.fits (then_fits C.fits end_fits)))
         (row_of_rule rule) (shape_of rule) }
-    requires due { Due table.now.text rule at.place }
-    ensures { Answers table.now.text rule
+    requires due { Due table.text.now rule at.place }
+    ensures { Answers table.entry.text.now rule
         (λ v. Node (trees (A.tree v.0 ∷ B.tree v.1 ∷ C.tree v.2 ∷ []))) at.place at.visits result }
 {
     let ((first, (second, Last(third))), at) = sequence::<(A, (B, Last<C>))>(
@@ -64,15 +65,15 @@ pub fn three_fields<'a, A: Build<'a>, B: Build<'a>, C: Build<'a>>(
 /// values, and where the rule ends; it is refused where a field is.
 pub fn four_fields<'a, A: Build<'a>, B: Build<'a>, C: Build<'a>, D: Build<'a>>(
     alloc: Global,
-    table: &Ends<'a>,
+    table: Table<'_, 'a>,
     rule: Rule,
     at: At,
 ) -> BuildResult<(A::Value, B::Value, C::Value, D::Value)>
     requires fit { fits_seq
         (then_fits A.fits (then_fits B.fits (then_fits C.fits (then_fits D.fits end_fits))))
         (row_of_rule rule) (shape_of rule) }
-    requires due { Due table.now.text rule at.place }
-    ensures { Answers table.now.text rule
+    requires due { Due table.text.now rule at.place }
+    ensures { Answers table.entry.text.now rule
         (λ v. Node (trees (A.tree v.0 ∷ B.tree v.1 ∷ C.tree v.2 ∷ D.tree v.3 ∷ []))) at.place
         at.visits result }
 {
@@ -87,14 +88,14 @@ pub fn four_fields<'a, A: Build<'a>, B: Build<'a>, C: Build<'a>, D: Build<'a>>(
 /// values, and where the rule ends; it is refused where a field is.
 pub fn five_fields<'a, A: Build<'a>, B: Build<'a>, C: Build<'a>, D: Build<'a>, E: Build<'a>>(
     alloc: Global,
-    table: &Ends<'a>,
+    table: Table<'_, 'a>,
     rule: Rule,
     at: At,
 ) -> BuildResult<(A::Value, B::Value, C::Value, D::Value, E::Value)>
     requires fit { fits_seq (then_fits A.fits (then_fits B.fits (then_fits C.fits (then_fits D.fits
         (then_fits E.fits end_fits))))) (row_of_rule rule) (shape_of rule) }
-    requires due { Due table.now.text rule at.place }
-    ensures { Answers table.now.text rule
+    requires due { Due table.text.now rule at.place }
+    ensures { Answers table.entry.text.now rule
         (λ v. Node (trees (A.tree v.0 ∷ B.tree v.1 ∷ C.tree v.2 ∷ D.tree v.3 ∷ E.tree v.4 ∷ [])))
         at.place at.visits result }
 {
@@ -117,15 +118,15 @@ pub fn six_fields<
     F: Build<'a>,
 >(
     alloc: Global,
-    table: &Ends<'a>,
+    table: Table<'_, 'a>,
     rule: Rule,
     at: At,
 ) -> BuildResult<(A::Value, B::Value, C::Value, D::Value, E::Value, F::Value)>
     requires fit { fits_seq (then_fits A.fits (then_fits B.fits (then_fits C.fits (then_fits D.fits
         (then_fits E.fits (then_fits F.fits end_fits)))))) (row_of_rule rule) (shape_of rule) }
-    requires due { Due table.now.text rule at.place }
-    ensures { Answers table.now.text rule (λ v. Node (trees (A.tree v.0 ∷ B.tree v.1 ∷ C.tree v.2
-        ∷ D.tree v.3 ∷ E.tree v.4 ∷ F.tree v.5 ∷ []))) at.place at.visits result }
+    requires due { Due table.text.now rule at.place }
+    ensures { Answers table.entry.text.now rule (λ v. Node (trees (A.tree v.0 ∷ B.tree v.1
+        ∷ C.tree v.2 ∷ D.tree v.3 ∷ E.tree v.4 ∷ F.tree v.5 ∷ []))) at.place at.visits result }
 {
     let ((first, (second, (third, (fourth, (fifth, Last(sixth)))))), at) = sequence::<
         (A, (B, (C, (D, (E, Last<F>))))),
@@ -147,7 +148,7 @@ pub fn seven_fields<
     G: Build<'a>,
 >(
     alloc: Global,
-    table: &Ends<'a>,
+    table: Table<'_, 'a>,
     rule: Rule,
     at: At,
 ) -> BuildResult<
@@ -164,9 +165,10 @@ pub fn seven_fields<
     requires fit { fits_seq (then_fits A.fits (then_fits B.fits (then_fits C.fits (then_fits D.fits
         (then_fits E.fits (then_fits F.fits (then_fits G.fits end_fits))))))) (row_of_rule rule)
         (shape_of rule) }
-    requires due { Due table.now.text rule at.place }
-    ensures { Answers table.now.text rule (λ v. Node (trees (A.tree v.0 ∷ B.tree v.1 ∷ C.tree v.2
-        ∷ D.tree v.3 ∷ E.tree v.4 ∷ F.tree v.5 ∷ G.tree v.6 ∷ []))) at.place at.visits result }
+    requires due { Due table.text.now rule at.place }
+    ensures { Answers table.entry.text.now rule (λ v. Node (trees (A.tree v.0 ∷ B.tree v.1
+        ∷ C.tree v.2 ∷ D.tree v.3 ∷ E.tree v.4 ∷ F.tree v.5 ∷ G.tree v.6
+        ∷ []))) at.place at.visits result }
 {
     let ((first, (second, (third, (fourth, (fifth, (sixth, Last(seventh))))))), at) = sequence::<
         (A, (B, (C, (D, (E, (F, Last<G>)))))),
@@ -189,7 +191,7 @@ pub fn eight_fields<
     H: Build<'a>,
 >(
     alloc: Global,
-    table: &Ends<'a>,
+    table: Table<'_, 'a>,
     rule: Rule,
     at: At,
 ) -> BuildResult<
@@ -207,9 +209,9 @@ pub fn eight_fields<
     requires fit { fits_seq (then_fits A.fits (then_fits B.fits (then_fits C.fits (then_fits D.fits
         (then_fits E.fits (then_fits F.fits (then_fits G.fits (then_fits H.fits end_fits))))))))
         (row_of_rule rule) (shape_of rule) }
-    requires due { Due table.now.text rule at.place }
-    ensures { Answers table.now.text rule (λ v. Node (trees (A.tree v.0 ∷ B.tree v.1 ∷ C.tree v.2
-        ∷ D.tree v.3 ∷ E.tree v.4 ∷ F.tree v.5 ∷ G.tree v.6 ∷ H.tree v.7
+    requires due { Due table.text.now rule at.place }
+    ensures { Answers table.entry.text.now rule (λ v. Node (trees (A.tree v.0 ∷ B.tree v.1
+        ∷ C.tree v.2 ∷ D.tree v.3 ∷ E.tree v.4 ∷ F.tree v.5 ∷ G.tree v.6 ∷ H.tree v.7
         ∷ []))) at.place at.visits result }
 {
     let ((first, (second, (third, (fourth, (fifth, (sixth, (seventh, Last(eighth)))))))), at) =

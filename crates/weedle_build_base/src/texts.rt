@@ -9,14 +9,15 @@ ghost use Rattle.weedle_build_base.specs.Built.{Due, Builds};
 use crate::at::At;
 use crate::build::{end_at, visit};
 use crate::fields::part;
-use weedle_rules::{Ends, Rule};
+use crate::table::Table;
+use weedle_rules::Rule;
 
 /// The text of part k of a rule, counted from 0, and where the rule ends, with its node visited. It
 /// looks at the ends of the rule and of the parts up to that one, and takes no memory.
-pub fn kept<'a>(table: &Ends<'a>, rule: Rule, k: usize, at: At) -> (&'a str, At)
+pub fn kept<'a>(table: Table<'_, 'a>, rule: Rule, k: usize, at: At) -> (&'a str, At)
     requires shape { IsTrue (is_kept k (row_of_rule rule) (shape_of rule)) }
-    requires due { Due table.now.text rule at.place }
-    ensures { Builds table.now.text rule (Text result.0.now) at.place at.visits result.1.place
+    requires due { Due table.text.now rule at.place }
+    ensures { Builds table.entry.text.now rule (Text result.0.now) at.place at.visits result.1.place
         result.1.visits }
 {
     let end = end_at(table, rule, at.place);
@@ -28,12 +29,11 @@ pub fn kept<'a>(table: &Ends<'a>, rule: Rule, k: usize, at: At) -> (&'a str, At)
         };
         let stop = end_at(table, inner, start);
         if i == k {
-            let text = table.text();
             let after = At {
                 place: end,
                 visits: at.visits,
             };
-            return (&text[start..stop], visit(after));
+            return (&table.text[start..stop], visit(after));
         }
         start = stop;
         i += 1;

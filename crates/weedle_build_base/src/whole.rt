@@ -6,8 +6,9 @@ ghost use Rattle.weedle_build_base.specs.Whole.{IsBuilt};
 
 use crate::at::At;
 use crate::build::Build;
+use crate::table::Table;
 use std::alloc::{AllocError, Global};
-use weedle_rules::{Ends, Rule};
+use weedle_rules::Rule;
 
 /// Builds the value that the rule of definitions reads at the front of the text that the table is
 /// over, and gives what follows it and how many nodes its tree has: so of `enum E {"a"}; x` the
@@ -16,17 +17,17 @@ use weedle_rules::{Ends, Rule};
 /// It takes the memory that the value holds, and is refused for lack of it alone.
 pub fn build_front<'a, T: Build<'a>>(
     alloc: Global,
-    ends: &Ends<'a>,
+    table: Table<'_, 'a>,
     raw: &'a str,
 ) -> Result<(T::Value, &'a str, u128), AllocError>
     requires fit { T.fits DEFINITIONS }
-    requires table { ends.now.text ≡ raw.now }
+    requires table { table.text.now ≡ raw.now }
     ensures { IfOk result (λ x. IsBuilt raw.now (T.tree x.0) x.1.now x.2) }
 {
     let front = At {
         place: 0,
         visits: 0,
     };
-    let (value, end) = T::build(alloc, ends, Rule::DEFINITIONS, front)?;
+    let (value, end) = T::build(alloc, table, Rule::DEFINITIONS, front)?;
     Ok((value, &raw[end.place..], end.visits))
 }

@@ -8,13 +8,14 @@ use Rattle.weedle_grammar.specs.Meaning.{Plain}
 use Rattle.weedle_grammar.proofs.Takes.{takes}
 use Rattle.weedle_grammar.proofs.Checked.{ranked}
 use Rattle.weedle_grammar.proofs.Exists.{advances, grows}
-use Rattle.weedle_build_base.specs.Built.{Answers, Builds, Due, Rest}
+use Rattle.weedle_build_base.specs.Built.{Answers, Builds, Due, IsTried, Rest}
 use Rattle.weedle_build_base.specs.declared.at.At.{At}
-use Rattle.weedle_build_types.specs.Steps.{IsOption, IsPlace, Keeps}
+use Rattle.weedle_build_types.specs.Steps.{IsOption, Keeps}
 use Rattle.weedle_rules.specs.Cells.{HasEnd}
 use Rattle.weedle_build_base.proofs.Finding.{found}
 use Rattle.weedle_build_base.proofs.Separated.{Listing}
 use Rattle.weedle_build_base.proofs.Sequences.{row_rest}
+use Rattle.weedle_build_base.proofs.WantedFacts.{option_tried}
 
 -- what takes a byte ends behind its place
 pub behind : {text : List ℕ} {r p v q w : ℕ} {t : Tree} → takes r ≡ true → Builds text r t p v q w → p < q
@@ -24,9 +25,9 @@ behind {text} {r} {p} {v} {q} {w} {t} e g = advances webidl text (λ x. x) takes
 pub not_before : {text : List ℕ} {r p v q w : ℕ} {t : Tree} → Builds text r t p v q w → p ≤ q
 not_before {text} {r} {p} {v} {q} {w} {t} g = grows webidl text g.reads
 
--- where something is due, a character begins
-pub place_of : {text : List ℕ} {r p : ℕ} → Due text r p → IsPlace text p
-place_of d = record { utf8 = d.utf8; boundary = d.boundary }
+-- where an option is due, its item is tried
+pub item_tried : {text : List ℕ} {x r p : ℕ} → row_of r ≡ Opt x → Due text r p → IsTried text x p
+item_tried row d = option_tried d (sym row)
 
 -- a rule that takes another, or nothing
 pub option_of : {x r : ℕ} → row_of r ≡ Opt x → shape_of r ≡ Plain → IsOption x r

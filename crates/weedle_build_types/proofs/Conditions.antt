@@ -9,7 +9,9 @@ use Rattle.weedle_grammar.specs.Size.{size, sizes}
 use Rattle.weedle_grammar.proofs.Unique.{one_seq}
 use Rattle.weedle_grammar.proofs.Inversion.{at_row, of_if}
 use Rattle.weedle_grammar.proofs.GrammarFacts.{at_boundary}
+use Rattle.weedle_memo.specs.Wanted.{Wanted}
 use Rattle.weedle_build_base.specs.Built.{plus, Due, Builds, Visits}
+use Rattle.weedle_build_base.proofs.WantedFacts.{wanted_by}
 
 -- four pieces of a tree each
 abbrev pub pieces_of : (t1 t2 t3 t4 : Tree) (q1 q2 q3 q4 : ℕ) → List Piece
@@ -21,10 +23,10 @@ module _ {text : List ℕ} {a b c d p v q1 w1 q2 w2 q3 w3 q4 w4 : ℕ} {t1 t2 t3
   parts : ReadsSeq webidl text (a ∷ b ∷ c ∷ d ∷ []) p (Some (pieces_of t1 t2 t3 t4 q1 q2 q3 q4))
   parts = seq_more g1.reads (seq_more g2.reads (seq_more g3.reads (seq_more g4.reads (seq_end refl) refl) refl) refl) refl
 
-  due_from : (r y : ℕ) (o : Outcome) (given : List Tree) (end : ℕ) (raw : Raw) → IsUtf8 text → IsCharBoundary text q4 → Reads text y q4 o → Gives given end ≡ shaped text (If (a ∷ b ∷ c ∷ d ∷ []) 1 y) (shape_of r) p raw
+  due_from : (r y : ℕ) (o : Outcome) (given : List Tree) (end : ℕ) (raw : Raw) → Wanted text y q4 → IsUtf8 text → IsCharBoundary text q4 → Reads text y q4 o → Gives given end ≡ shaped text (If (a ∷ b ∷ c ∷ d ∷ []) 1 y) (shape_of r) p raw
       → raw ≡ before (given_of (pieces_of t1 t2 t3 t4 q1 q2 q3 q4)) (raw_of o) → Due text y q4
-  due_from r y Fails given end raw u k m h e = let z : raw ≡ Breaks = e in let x = h ∙ ap (shaped text (If (a ∷ b ∷ c ∷ d ∷ []) 1 y) (shape_of r) p) z in cc
-  due_from r y (Gives ts e) given end raw u k m h z = record { given = ts; end = e; reads = m; utf8 = u; boundary = k }
+  due_from r y Fails given end raw tried u k m h e = let z : raw ≡ Breaks = e in let x = h ∙ ap (shaped text (If (a ∷ b ∷ c ∷ d ∷ []) 1 y) (shape_of r) p) z in cc
+  due_from r y (Gives ts e) given end raw tried u k m h z = record { given = ts; end = e; reads = m; wanted = tried; utf8 = u; boundary = k }
 
   module _ (there : gave_some 1 (pieces_of t1 t2 t3 t4 q1 q2 q3 q4) ≡ true) where
     -- what follows is due
@@ -41,7 +43,7 @@ module _ {text : List ℕ} {a b c d p v q1 w1 q2 w2 q3 w3 q4 w4 : ℕ} {t1 t2 t3
             | inl f ↦ absurd (let s = one_seq f.1 parts refl in let e : f.0 ≡ pieces_of t1 t2 t3 t4 q1 q2 q3 q4 = cc in let z = ap (gave_some 1) e in cc)
             | inr f ↦ (let s = one_seq f.2 parts refl in
                 let e : f.0 ≡ pieces_of t1 t2 t3 t4 q1 q2 q3 q4 = cc in
-                due_from r y f.1 h.given h.end i.0 h.utf8 k4 (subst (λ ps. Reads text y (last_end p ps) f.1) e f.4) i.2 (subst (λ ps. i.0 ≡ before (given_of ps) (raw_of f.1)) e f.5))
+                due_from r y f.1 h.given h.end i.0 (wanted_by h row (inr (q4, (pieces_of t1 t2 t3 t4 q1 q2 q3 q4, parts, there, refl), (refl, refl)))) h.utf8 k4 (subst (λ ps. Reads text y (last_end p ps) f.1) e f.4) i.2 (subst (λ ps. i.0 ≡ before (given_of ps) (raw_of f.1)) e f.5))
           ]
         ]
 

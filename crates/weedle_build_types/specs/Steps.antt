@@ -1,16 +1,11 @@
 -- What a part of a rule that may be absent is built of, and what is put into a list.
-use Rattle.std.specs.Prelude.{◌≡◌, ℕ, List, [], ◌∷◌, ◌++◌, Result, Ok, IsUtf8, IsCharBoundary}
+use Rattle.std.specs.Prelude.{◌≡◌, ℕ, List, [], ◌∷◌, ◌++◌, Result, Ok}
 use Rattle.weedle_build_base.specs.Built.{Builds, Visits}
 use Rattle.weedle_build_base.specs.declared.at.At.{At}
 use Rattle.weedle_grammar.specs.Rows.{Opt}
 use Rattle.weedle_grammar.specs.Meaning.{Plain}
 use Rattle.weedle_grammar.specs.written.Table.{row_of, shape_of}
 use Rattle.weedle_grammar.specs.Trees.{Tree, Alt}
-
--- a character of the text begins at the place
-pub record IsPlace (text : List ℕ) (p : ℕ) : Type 0 where
-  pub utf8 : IsUtf8 text
-  pub boundary : IsCharBoundary text p
 
 -- rule r takes rule x, or nothing
 pub record IsOption (x r : ℕ) : Type 0 where

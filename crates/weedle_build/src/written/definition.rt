@@ -9,7 +9,7 @@ ghost use Rattle.weedle_idl.specs.written.DefinitionTrees.{definition_tree};
 
 use crate::part::IdlPart;
 use std::alloc::Global;
-use weedle_build_base::{At, Build, BuildResult, alternative, choice};
+use weedle_build_base::{At, Build, BuildResult, Table, alternative, choice};
 use weedle_idl::Definition;
 use weedle_interfaces::{
     CallbackInterfaceDefinition, InterfaceDefinition, PartialInterfaceDefinition,
@@ -19,7 +19,7 @@ use weedle_namespaces::{
     DictionaryDefinition, NamespaceDefinition, PartialDictionaryDefinition,
     PartialNamespaceDefinition,
 };
-use weedle_rules::{Ends, Rule};
+use weedle_rules::Rule;
 use weedle_statements::{
     CallbackDefinition, EnumDefinition, ImplementsDefinition, IncludesStatementDefinition,
     TypedefDefinition,
@@ -32,7 +32,12 @@ impl<'a> Build<'a> for IdlPart<Definition<'a>> {
 
     ghost tree = { definition_tree };
 
-    fn build(alloc: Global, table: &Ends<'a>, _rule: Rule, at: At) -> BuildResult<Definition<'a>> {
+    fn build(
+        alloc: Global,
+        table: Table<'_, 'a>,
+        _rule: Rule,
+        at: At,
+    ) -> BuildResult<Definition<'a>> {
         let rule = Rule::DEFINITION;
         match choice(table, rule, at.place) {
             0 => {

@@ -18,14 +18,14 @@ ghost use Rattle.weedle_namespaces.specs.written.Trees.{
 use crate::part::IdlPart;
 use std::alloc::Global;
 use weedle_base::term::{Dictionary, Partial, Required, SemiColon};
-use weedle_build_base::{At, Build, BuildResult, seven_fields, six_fields};
+use weedle_build_base::{At, Build, BuildResult, Table, seven_fields, six_fields};
 use weedle_build_types::{Attributes, Held};
 use weedle_namespaces::dictionary::DictionaryMember;
 use weedle_namespaces::{DictionaryDefinition, PartialDictionaryDefinition};
 use weedle_parts::common::{Braced, Docstring, Identifier};
 use weedle_parts::inheritance::Inheritance;
 use weedle_parts::literal::Default;
-use weedle_rules::{Ends, Rule};
+use weedle_rules::Rule;
 use weedle_types::types::Type;
 
 impl<'a> Build<'a> for IdlPart<DictionaryMember<'a>> {
@@ -37,7 +37,7 @@ impl<'a> Build<'a> for IdlPart<DictionaryMember<'a>> {
 
     fn build(
         alloc: Global,
-        table: &Ends<'a>,
+        table: Table<'_, 'a>,
         _rule: Rule,
         at: At,
     ) -> BuildResult<DictionaryMember<'a>> {
@@ -78,7 +78,7 @@ impl<'a> Build<'a> for IdlPart<DictionaryDefinition<'a>> {
 
     fn build(
         alloc: Global,
-        table: &Ends<'a>,
+        table: Table<'_, 'a>,
         _rule: Rule,
         at: At,
     ) -> BuildResult<DictionaryDefinition<'a>> {
@@ -131,7 +131,7 @@ impl<'a> Build<'a> for IdlPart<PartialDictionaryDefinition<'a>> {
 
     fn build(
         alloc: Global,
-        table: &Ends<'a>,
+        table: Table<'_, 'a>,
         _rule: Rule,
         at: At,
     ) -> BuildResult<PartialDictionaryDefinition<'a>> {

@@ -21,7 +21,7 @@ use crate::part::IdlPart;
 use std::alloc::Global;
 use weedle_base::term::{Callback, Interface, Partial, SemiColon};
 use weedle_build_base::{
-    At, Build, BuildResult, alternative, choice, eight_fields, seven_fields, six_fields,
+    At, Build, BuildResult, Table, alternative, choice, eight_fields, seven_fields, six_fields,
 };
 use weedle_build_types::Attributes;
 use weedle_interfaces::{
@@ -37,7 +37,7 @@ use weedle_members::{
 };
 use weedle_parts::common::{Braced, Docstring, Identifier};
 use weedle_parts::inheritance::Inheritance;
-use weedle_rules::{Ends, Rule};
+use weedle_rules::Rule;
 
 impl<'a> Build<'a> for IdlPart<InterfaceMember<'a>> {
     type Value = InterfaceMember<'a>;
@@ -48,7 +48,7 @@ impl<'a> Build<'a> for IdlPart<InterfaceMember<'a>> {
 
     fn build(
         alloc: Global,
-        table: &Ends<'a>,
+        table: Table<'_, 'a>,
         _rule: Rule,
         at: At,
     ) -> BuildResult<InterfaceMember<'a>> {
@@ -122,7 +122,7 @@ impl<'a> Build<'a> for IdlPart<CallbackInterfaceDefinition<'a>> {
 
     fn build(
         alloc: Global,
-        table: &Ends<'a>,
+        table: Table<'_, 'a>,
         _rule: Rule,
         at: At,
     ) -> BuildResult<CallbackInterfaceDefinition<'a>> {
@@ -178,7 +178,7 @@ impl<'a> Build<'a> for IdlPart<InterfaceDefinition<'a>> {
 
     fn build(
         alloc: Global,
-        table: &Ends<'a>,
+        table: Table<'_, 'a>,
         _rule: Rule,
         at: At,
     ) -> BuildResult<InterfaceDefinition<'a>> {
@@ -231,7 +231,7 @@ impl<'a> Build<'a> for IdlPart<PartialInterfaceDefinition<'a>> {
 
     fn build(
         alloc: Global,
-        table: &Ends<'a>,
+        table: Table<'_, 'a>,
         _rule: Rule,
         at: At,
     ) -> BuildResult<PartialInterfaceDefinition<'a>> {

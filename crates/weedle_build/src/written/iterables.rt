@@ -28,14 +28,16 @@ ghost use Rattle.weedle_iterables.specs.written.Trees.{
 use crate::part::{IdlPart, OneType, TwoTypes};
 use std::alloc::Global;
 use weedle_base::term::{Async, Iterable, Maplike, ReadOnly, SemiColon, Setlike};
-use weedle_build_base::{At, Build, BuildResult, alternative, choice, five_fields, four_fields};
+use weedle_build_base::{
+    At, Build, BuildResult, Table, alternative, choice, five_fields, four_fields,
+};
 use weedle_build_types::{Arguments, Attributes};
 use weedle_iterables::{
     AsyncIterableInterfaceMember, DoubleTypedAsyncIterable, DoubleTypedIterable,
     IterableInterfaceMember, MaplikeInterfaceMember, SetlikeInterfaceMember,
     SingleTypedAsyncIterable, SingleTypedIterable,
 };
-use weedle_rules::{Ends, Rule};
+use weedle_rules::Rule;
 
 impl<'a> Build<'a> for IdlPart<SingleTypedIterable<'a>> {
     type Value = SingleTypedIterable<'a>;
@@ -46,7 +48,7 @@ impl<'a> Build<'a> for IdlPart<SingleTypedIterable<'a>> {
 
     fn build(
         alloc: Global,
-        table: &Ends<'a>,
+        table: Table<'_, 'a>,
         _rule: Rule,
         at: At,
     ) -> BuildResult<SingleTypedIterable<'a>> {
@@ -79,7 +81,7 @@ impl<'a> Build<'a> for IdlPart<DoubleTypedIterable<'a>> {
 
     fn build(
         alloc: Global,
-        table: &Ends<'a>,
+        table: Table<'_, 'a>,
         _rule: Rule,
         at: At,
     ) -> BuildResult<DoubleTypedIterable<'a>> {
@@ -112,7 +114,7 @@ impl<'a> Build<'a> for IdlPart<IterableInterfaceMember<'a>> {
 
     fn build(
         alloc: Global,
-        table: &Ends<'a>,
+        table: Table<'_, 'a>,
         _rule: Rule,
         at: At,
     ) -> BuildResult<IterableInterfaceMember<'a>> {
@@ -144,7 +146,7 @@ impl<'a> Build<'a> for IdlPart<SingleTypedAsyncIterable<'a>> {
 
     fn build(
         alloc: Global,
-        table: &Ends<'a>,
+        table: Table<'_, 'a>,
         _rule: Rule,
         at: At,
     ) -> BuildResult<SingleTypedAsyncIterable<'a>> {
@@ -180,7 +182,7 @@ impl<'a> Build<'a> for IdlPart<DoubleTypedAsyncIterable<'a>> {
 
     fn build(
         alloc: Global,
-        table: &Ends<'a>,
+        table: Table<'_, 'a>,
         _rule: Rule,
         at: At,
     ) -> BuildResult<DoubleTypedAsyncIterable<'a>> {
@@ -216,7 +218,7 @@ impl<'a> Build<'a> for IdlPart<AsyncIterableInterfaceMember<'a>> {
 
     fn build(
         alloc: Global,
-        table: &Ends<'a>,
+        table: Table<'_, 'a>,
         _rule: Rule,
         at: At,
     ) -> BuildResult<AsyncIterableInterfaceMember<'a>> {
@@ -248,7 +250,7 @@ impl<'a> Build<'a> for IdlPart<MaplikeInterfaceMember<'a>> {
 
     fn build(
         alloc: Global,
-        table: &Ends<'a>,
+        table: Table<'_, 'a>,
         _rule: Rule,
         at: At,
     ) -> BuildResult<MaplikeInterfaceMember<'a>> {
@@ -282,7 +284,7 @@ impl<'a> Build<'a> for IdlPart<SetlikeInterfaceMember<'a>> {
 
     fn build(
         alloc: Global,
-        table: &Ends<'a>,
+        table: Table<'_, 'a>,
         _rule: Rule,
         at: At,
     ) -> BuildResult<SetlikeInterfaceMember<'a>> {

@@ -23,7 +23,7 @@ use crate::part::IdlPart;
 use std::alloc::Global;
 use weedle_base::term::{Assign, Attribute, Const, Constructor, ReadOnly, SemiColon, Stringifier};
 use weedle_build_base::{
-    At, Build, BuildResult, eight_fields, five_fields, seven_fields, three_fields,
+    At, Build, BuildResult, Table, eight_fields, five_fields, seven_fields, three_fields,
 };
 use weedle_build_types::{Arguments, Attributes, Held};
 use weedle_members::{
@@ -34,7 +34,7 @@ use weedle_parts::common::{Docstring, Identifier};
 use weedle_parts::literal::ConstValue;
 use weedle_parts::modifier::{Special, StringifierOrInheritOrStatic, StringifierOrStatic};
 use weedle_parts::types::ConstType;
-use weedle_rules::{Ends, Rule};
+use weedle_rules::Rule;
 use weedle_types::types::{AttributedType, ReturnType};
 
 impl<'a> Build<'a> for IdlPart<ConstMember<'a>> {
@@ -44,7 +44,12 @@ impl<'a> Build<'a> for IdlPart<ConstMember<'a>> {
 
     ghost tree = { const_member_tree };
 
-    fn build(alloc: Global, table: &Ends<'a>, _rule: Rule, at: At) -> BuildResult<ConstMember<'a>> {
+    fn build(
+        alloc: Global,
+        table: Table<'_, 'a>,
+        _rule: Rule,
+        at: At,
+    ) -> BuildResult<ConstMember<'a>> {
         match seven_fields::<
             Attributes<'a>,
             Const,
@@ -83,7 +88,7 @@ impl<'a> Build<'a> for IdlPart<AttributeInterfaceMember<'a>> {
 
     fn build(
         alloc: Global,
-        table: &Ends<'a>,
+        table: Table<'_, 'a>,
         _rule: Rule,
         at: At,
     ) -> BuildResult<AttributeInterfaceMember<'a>> {
@@ -124,7 +129,7 @@ impl<'a> Build<'a> for IdlPart<ConstructorInterfaceMember<'a>> {
 
     fn build(
         alloc: Global,
-        table: &Ends<'a>,
+        table: Table<'_, 'a>,
         _rule: Rule,
         at: At,
     ) -> BuildResult<ConstructorInterfaceMember<'a>> {
@@ -160,7 +165,7 @@ impl<'a> Build<'a> for IdlPart<OperationInterfaceMember<'a>> {
 
     fn build(
         alloc: Global,
-        table: &Ends<'a>,
+        table: Table<'_, 'a>,
         _rule: Rule,
         at: At,
     ) -> BuildResult<OperationInterfaceMember<'a>> {
@@ -216,7 +221,7 @@ impl<'a> Build<'a> for IdlPart<StringifierMember<'a>> {
 
     fn build(
         alloc: Global,
-        table: &Ends<'a>,
+        table: Table<'_, 'a>,
         _rule: Rule,
         at: At,
     ) -> BuildResult<StringifierMember<'a>> {

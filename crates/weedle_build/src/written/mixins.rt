@@ -24,13 +24,15 @@ ghost use Rattle.weedle_mixins.specs.written.Trees.{
 use crate::part::IdlPart;
 use std::alloc::Global;
 use weedle_base::term::{Attribute, Interface, Mixin, Partial, ReadOnly, SemiColon, Stringifier};
-use weedle_build_base::{At, Build, BuildResult, alternative, choice, seven_fields, six_fields};
+use weedle_build_base::{
+    At, Build, BuildResult, Table, alternative, choice, seven_fields, six_fields,
+};
 use weedle_build_types::{Arguments, Attributes, Held};
 use weedle_members::{ConstMember, StringifierMember};
 use weedle_mixins::mixin::{AttributeMixinMember, MixinMember, OperationMixinMember};
 use weedle_mixins::{InterfaceMixinDefinition, PartialInterfaceMixinDefinition};
 use weedle_parts::common::{Braced, Identifier};
-use weedle_rules::{Ends, Rule};
+use weedle_rules::Rule;
 use weedle_types::types::{AttributedType, ReturnType};
 
 impl<'a> Build<'a> for IdlPart<OperationMixinMember<'a>> {
@@ -42,7 +44,7 @@ impl<'a> Build<'a> for IdlPart<OperationMixinMember<'a>> {
 
     fn build(
         alloc: Global,
-        table: &Ends<'a>,
+        table: Table<'_, 'a>,
         _rule: Rule,
         at: At,
     ) -> BuildResult<OperationMixinMember<'a>> {
@@ -80,7 +82,7 @@ impl<'a> Build<'a> for IdlPart<AttributeMixinMember<'a>> {
 
     fn build(
         alloc: Global,
-        table: &Ends<'a>,
+        table: Table<'_, 'a>,
         _rule: Rule,
         at: At,
     ) -> BuildResult<AttributeMixinMember<'a>> {
@@ -120,7 +122,12 @@ impl<'a> Build<'a> for IdlPart<MixinMember<'a>> {
 
     ghost tree = { mixin_member_tree };
 
-    fn build(alloc: Global, table: &Ends<'a>, _rule: Rule, at: At) -> BuildResult<MixinMember<'a>> {
+    fn build(
+        alloc: Global,
+        table: Table<'_, 'a>,
+        _rule: Rule,
+        at: At,
+    ) -> BuildResult<MixinMember<'a>> {
         let rule = Rule::MIXIN_MEMBER;
         match choice(table, rule, at.place) {
             0 => {
@@ -161,7 +168,7 @@ impl<'a> Build<'a> for IdlPart<InterfaceMixinDefinition<'a>> {
 
     fn build(
         alloc: Global,
-        table: &Ends<'a>,
+        table: Table<'_, 'a>,
         _rule: Rule,
         at: At,
     ) -> BuildResult<InterfaceMixinDefinition<'a>> {
@@ -199,7 +206,7 @@ impl<'a> Build<'a> for IdlPart<PartialInterfaceMixinDefinition<'a>> {
 
     fn build(
         alloc: Global,
-        table: &Ends<'a>,
+        table: Table<'_, 'a>,
         _rule: Rule,
         at: At,
     ) -> BuildResult<PartialInterfaceMixinDefinition<'a>> {

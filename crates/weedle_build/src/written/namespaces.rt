@@ -24,14 +24,16 @@ ghost use Rattle.weedle_namespaces.specs.written.Trees.{
 use crate::part::IdlPart;
 use std::alloc::Global;
 use weedle_base::term::{Attribute, Namespace, Partial, ReadOnly, SemiColon};
-use weedle_build_base::{At, Build, BuildResult, alternative, choice, seven_fields, six_fields};
+use weedle_build_base::{
+    At, Build, BuildResult, Table, alternative, choice, seven_fields, six_fields,
+};
 use weedle_build_types::{Arguments, Attributes, Held};
 use weedle_namespaces::namespace::{
     AttributeNamespaceMember, NamespaceMember, OperationNamespaceMember,
 };
 use weedle_namespaces::{NamespaceDefinition, PartialNamespaceDefinition};
 use weedle_parts::common::{Braced, Docstring, Identifier};
-use weedle_rules::{Ends, Rule};
+use weedle_rules::Rule;
 use weedle_types::types::{AttributedType, ReturnType};
 
 impl<'a> Build<'a> for IdlPart<OperationNamespaceMember<'a>> {
@@ -43,7 +45,7 @@ impl<'a> Build<'a> for IdlPart<OperationNamespaceMember<'a>> {
 
     fn build(
         alloc: Global,
-        table: &Ends<'a>,
+        table: Table<'_, 'a>,
         _rule: Rule,
         at: At,
     ) -> BuildResult<OperationNamespaceMember<'a>> {
@@ -81,7 +83,7 @@ impl<'a> Build<'a> for IdlPart<AttributeNamespaceMember<'a>> {
 
     fn build(
         alloc: Global,
-        table: &Ends<'a>,
+        table: Table<'_, 'a>,
         _rule: Rule,
         at: At,
     ) -> BuildResult<AttributeNamespaceMember<'a>> {
@@ -122,7 +124,7 @@ impl<'a> Build<'a> for IdlPart<NamespaceMember<'a>> {
 
     fn build(
         alloc: Global,
-        table: &Ends<'a>,
+        table: Table<'_, 'a>,
         _rule: Rule,
         at: At,
     ) -> BuildResult<NamespaceMember<'a>> {
@@ -154,7 +156,7 @@ impl<'a> Build<'a> for IdlPart<NamespaceDefinition<'a>> {
 
     fn build(
         alloc: Global,
-        table: &Ends<'a>,
+        table: Table<'_, 'a>,
         _rule: Rule,
         at: At,
     ) -> BuildResult<NamespaceDefinition<'a>> {
@@ -192,7 +194,7 @@ impl<'a> Build<'a> for IdlPart<PartialNamespaceDefinition<'a>> {
 
     fn build(
         alloc: Global,
-        table: &Ends<'a>,
+        table: Table<'_, 'a>,
         _rule: Rule,
         at: At,
     ) -> BuildResult<PartialNamespaceDefinition<'a>> {

@@ -25,12 +25,12 @@ use crate::part::{EnumValues, IdlPart};
 use std::alloc::Global;
 use weedle_base::term::{Assign, Callback, Enum, Implements, Includes, SemiColon, Typedef};
 use weedle_build_base::{
-    At, Build, BuildResult, five_fields, seven_fields, six_fields, two_fields,
+    At, Build, BuildResult, Table, five_fields, seven_fields, six_fields, two_fields,
 };
 use weedle_build_types::{Arguments, Attributes, Held};
 use weedle_parts::common::{Docstring, Identifier};
 use weedle_parts::literal::StringLit;
-use weedle_rules::{Ends, Rule};
+use weedle_rules::Rule;
 use weedle_statements::{
     CallbackDefinition, EnumDefinition, EnumVariant, ImplementsDefinition,
     IncludesStatementDefinition, TypedefDefinition,
@@ -44,7 +44,12 @@ impl<'a> Build<'a> for IdlPart<EnumVariant<'a>> {
 
     ghost tree = { enum_variant_tree };
 
-    fn build(alloc: Global, table: &Ends<'a>, _rule: Rule, at: At) -> BuildResult<EnumVariant<'a>> {
+    fn build(
+        alloc: Global,
+        table: Table<'_, 'a>,
+        _rule: Rule,
+        at: At,
+    ) -> BuildResult<EnumVariant<'a>> {
         let ((docstring, value), at) = two_fields::<Option<Docstring>, StringLit<'a>>(
             alloc,
             table,
@@ -64,7 +69,7 @@ impl<'a> Build<'a> for IdlPart<CallbackDefinition<'a>> {
 
     fn build(
         alloc: Global,
-        table: &Ends<'a>,
+        table: Table<'_, 'a>,
         _rule: Rule,
         at: At,
     ) -> BuildResult<CallbackDefinition<'a>> {
@@ -109,7 +114,7 @@ impl<'a> Build<'a> for IdlPart<EnumDefinition<'a>> {
 
     fn build(
         alloc: Global,
-        table: &Ends<'a>,
+        table: Table<'_, 'a>,
         _rule: Rule,
         at: At,
     ) -> BuildResult<EnumDefinition<'a>> {
@@ -147,7 +152,7 @@ impl<'a> Build<'a> for IdlPart<TypedefDefinition<'a>> {
 
     fn build(
         alloc: Global,
-        table: &Ends<'a>,
+        table: Table<'_, 'a>,
         _rule: Rule,
         at: At,
     ) -> BuildResult<TypedefDefinition<'a>> {
@@ -183,7 +188,7 @@ impl<'a> Build<'a> for IdlPart<IncludesStatementDefinition<'a>> {
 
     fn build(
         alloc: Global,
-        table: &Ends<'a>,
+        table: Table<'_, 'a>,
         _rule: Rule,
         at: At,
     ) -> BuildResult<IncludesStatementDefinition<'a>> {
@@ -217,7 +222,7 @@ impl<'a> Build<'a> for IdlPart<ImplementsDefinition<'a>> {
 
     fn build(
         alloc: Global,
-        table: &Ends<'a>,
+        table: Table<'_, 'a>,
         _rule: Rule,
         at: At,
     ) -> BuildResult<ImplementsDefinition<'a>> {

@@ -29,6 +29,7 @@ use crate::alternatives::{alternative, choice};
 use crate::at::At;
 use crate::build::{Build, BuildResult};
 use crate::structs::two_fields;
+use crate::table::Table;
 use std::alloc::Global;
 use weedle_base::term::{
     Assign, CloseBrace, CloseBracket, False, Infinity, NaN, NegInfinity, Null, OpenBrace,
@@ -38,7 +39,7 @@ use weedle_parts::literal::{
     BooleanLit, ConstValue, DecLit, Default, DefaultValue, EmptyArrayLit, EmptyDictionaryLit,
     FloatLit, FloatValueLit, HexLit, IntegerLit, OctLit, StringLit,
 };
-use weedle_rules::{Ends, Rule};
+use weedle_rules::Rule;
 
 impl<'a> Build<'a> for BooleanLit {
     type Value = Self;
@@ -47,7 +48,7 @@ impl<'a> Build<'a> for BooleanLit {
 
     ghost tree = { boolean_tree };
 
-    fn build(alloc: Global, table: &Ends<'a>, _rule: Rule, at: At) -> BuildResult<Self> {
+    fn build(alloc: Global, table: Table<'_, 'a>, _rule: Rule, at: At) -> BuildResult<Self> {
         let rule = Rule::BOOLEAN_LIT;
         match choice(table, rule, at.place) {
             0 => {
@@ -70,7 +71,7 @@ impl<'a> Build<'a> for IntegerLit<'a> {
 
     ghost tree = { integer_tree };
 
-    fn build(alloc: Global, table: &Ends<'a>, _rule: Rule, at: At) -> BuildResult<Self> {
+    fn build(alloc: Global, table: Table<'_, 'a>, _rule: Rule, at: At) -> BuildResult<Self> {
         let rule = Rule::INTEGER_LIT;
         match choice(table, rule, at.place) {
             0 => {
@@ -97,7 +98,7 @@ impl<'a> Build<'a> for FloatLit<'a> {
 
     ghost tree = { float_tree };
 
-    fn build(alloc: Global, table: &Ends<'a>, _rule: Rule, at: At) -> BuildResult<Self> {
+    fn build(alloc: Global, table: Table<'_, 'a>, _rule: Rule, at: At) -> BuildResult<Self> {
         let rule = Rule::FLOAT_LIT;
         match choice(table, rule, at.place) {
             0 => {
@@ -128,7 +129,7 @@ impl<'a> Build<'a> for EmptyArrayLit {
 
     ghost tree = { empty_array_tree };
 
-    fn build(alloc: Global, table: &Ends<'a>, _rule: Rule, at: At) -> BuildResult<Self> {
+    fn build(alloc: Global, table: Table<'_, 'a>, _rule: Rule, at: At) -> BuildResult<Self> {
         let ((open_bracket, close_bracket), at) = two_fields::<OpenBracket, CloseBracket>(
             alloc,
             table,
@@ -152,7 +153,7 @@ impl<'a> Build<'a> for EmptyDictionaryLit {
 
     ghost tree = { empty_dictionary_tree };
 
-    fn build(alloc: Global, table: &Ends<'a>, _rule: Rule, at: At) -> BuildResult<Self> {
+    fn build(alloc: Global, table: Table<'_, 'a>, _rule: Rule, at: At) -> BuildResult<Self> {
         let ((open_brace, close_brace), at) = two_fields::<OpenBrace, CloseBrace>(
             alloc,
             table,
@@ -176,7 +177,7 @@ impl<'a> Build<'a> for DefaultValue<'a> {
 
     ghost tree = { default_value_tree };
 
-    fn build(alloc: Global, table: &Ends<'a>, _rule: Rule, at: At) -> BuildResult<Self> {
+    fn build(alloc: Global, table: Table<'_, 'a>, _rule: Rule, at: At) -> BuildResult<Self> {
         let rule = Rule::DEFAULT_VALUE;
         match choice(table, rule, at.place) {
             0 => {
@@ -219,7 +220,7 @@ impl<'a> Build<'a> for ConstValue<'a> {
 
     ghost tree = { const_value_tree };
 
-    fn build(alloc: Global, table: &Ends<'a>, _rule: Rule, at: At) -> BuildResult<Self> {
+    fn build(alloc: Global, table: Table<'_, 'a>, _rule: Rule, at: At) -> BuildResult<Self> {
         let rule = Rule::CONST_VALUE;
         match choice(table, rule, at.place) {
             0 => {
@@ -250,7 +251,7 @@ impl<'a> Build<'a> for Default<'a> {
 
     ghost tree = { default_tree };
 
-    fn build(alloc: Global, table: &Ends<'a>, _rule: Rule, at: At) -> BuildResult<Self> {
+    fn build(alloc: Global, table: Table<'_, 'a>, _rule: Rule, at: At) -> BuildResult<Self> {
         let ((assign, value), at) = two_fields::<Assign, DefaultValue>(
             alloc,
             table,

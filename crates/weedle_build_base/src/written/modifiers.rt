@@ -21,6 +21,7 @@ use crate::alternatives::{alternative, choice};
 use crate::at::At;
 use crate::build::{Build, BuildResult};
 use crate::structs::two_fields;
+use crate::table::Table;
 use std::alloc::Global;
 use weedle_base::term::{
     Colon, Deleter, Getter, Inherit, LegacyCaller, Setter, Static, Stringifier,
@@ -28,7 +29,7 @@ use weedle_base::term::{
 use weedle_parts::common::Identifier;
 use weedle_parts::inheritance::Inheritance;
 use weedle_parts::modifier::{Special, StringifierOrInheritOrStatic, StringifierOrStatic};
-use weedle_rules::{Ends, Rule};
+use weedle_rules::Rule;
 
 impl<'a> Build<'a> for Inheritance<'a> {
     type Value = Self;
@@ -37,7 +38,7 @@ impl<'a> Build<'a> for Inheritance<'a> {
 
     ghost tree = { inheritance_tree };
 
-    fn build(alloc: Global, table: &Ends<'a>, _rule: Rule, at: At) -> BuildResult<Self> {
+    fn build(alloc: Global, table: Table<'_, 'a>, _rule: Rule, at: At) -> BuildResult<Self> {
         let ((colon, identifier), at) = two_fields::<Colon, Identifier>(
             alloc,
             table,
@@ -55,7 +56,7 @@ impl<'a> Build<'a> for Special {
 
     ghost tree = { special_tree };
 
-    fn build(alloc: Global, table: &Ends<'a>, _rule: Rule, at: At) -> BuildResult<Self> {
+    fn build(alloc: Global, table: Table<'_, 'a>, _rule: Rule, at: At) -> BuildResult<Self> {
         let rule = Rule::SPECIAL;
         match choice(table, rule, at.place) {
             0 => {
@@ -86,7 +87,7 @@ impl<'a> Build<'a> for StringifierOrInheritOrStatic {
 
     ghost tree = { stringifier_or_inherit_or_static_tree };
 
-    fn build(alloc: Global, table: &Ends<'a>, _rule: Rule, at: At) -> BuildResult<Self> {
+    fn build(alloc: Global, table: Table<'_, 'a>, _rule: Rule, at: At) -> BuildResult<Self> {
         let rule = Rule::STRINGIFIER_OR_INHERIT_OR_STATIC;
         match choice(table, rule, at.place) {
             0 => {
@@ -113,7 +114,7 @@ impl<'a> Build<'a> for StringifierOrStatic {
 
     ghost tree = { stringifier_or_static_tree };
 
-    fn build(alloc: Global, table: &Ends<'a>, _rule: Rule, at: At) -> BuildResult<Self> {
+    fn build(alloc: Global, table: Table<'_, 'a>, _rule: Rule, at: At) -> BuildResult<Self> {
         let rule = Rule::STRINGIFIER_OR_STATIC;
         match choice(table, rule, at.place) {
             0 => {

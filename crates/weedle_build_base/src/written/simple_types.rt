@@ -29,6 +29,7 @@ use crate::alternatives::{alternative, choice};
 use crate::at::At;
 use crate::build::{Build, BuildResult};
 use crate::structs::two_fields;
+use crate::table::Table;
 use std::alloc::Global;
 use weedle_base::term::{Boolean, Byte, Double, Float, Long, Octet, Short, Unrestricted, Unsigned};
 use weedle_parts::common::Identifier;
@@ -36,7 +37,7 @@ use weedle_parts::types::{
     ConstType, DoubleType, FloatType, FloatingPointType, IntegerType, LongLongType, LongType,
     MayBeNull, ShortType,
 };
-use weedle_rules::{Ends, Rule};
+use weedle_rules::Rule;
 
 impl<'a> Build<'a> for LongLongType {
     type Value = Self;
@@ -45,7 +46,7 @@ impl<'a> Build<'a> for LongLongType {
 
     ghost tree = { long_long_type_tree };
 
-    fn build(alloc: Global, table: &Ends<'a>, _rule: Rule, at: At) -> BuildResult<Self> {
+    fn build(alloc: Global, table: Table<'_, 'a>, _rule: Rule, at: At) -> BuildResult<Self> {
         let ((unsigned, long_long), at) = two_fields::<Option<Unsigned>, (Long, Long)>(
             alloc,
             table,
@@ -69,7 +70,7 @@ impl<'a> Build<'a> for LongType {
 
     ghost tree = { long_type_tree };
 
-    fn build(alloc: Global, table: &Ends<'a>, _rule: Rule, at: At) -> BuildResult<Self> {
+    fn build(alloc: Global, table: Table<'_, 'a>, _rule: Rule, at: At) -> BuildResult<Self> {
         let ((unsigned, long), at) = two_fields::<Option<Unsigned>, Long>(
             alloc,
             table,
@@ -87,7 +88,7 @@ impl<'a> Build<'a> for ShortType {
 
     ghost tree = { short_type_tree };
 
-    fn build(alloc: Global, table: &Ends<'a>, _rule: Rule, at: At) -> BuildResult<Self> {
+    fn build(alloc: Global, table: Table<'_, 'a>, _rule: Rule, at: At) -> BuildResult<Self> {
         let ((unsigned, short), at) = two_fields::<Option<Unsigned>, Short>(
             alloc,
             table,
@@ -105,7 +106,7 @@ impl<'a> Build<'a> for IntegerType {
 
     ghost tree = { integer_type_tree };
 
-    fn build(alloc: Global, table: &Ends<'a>, _rule: Rule, at: At) -> BuildResult<Self> {
+    fn build(alloc: Global, table: Table<'_, 'a>, _rule: Rule, at: At) -> BuildResult<Self> {
         let rule = Rule::INTEGER_TYPE;
         match choice(table, rule, at.place) {
             0 => {
@@ -132,7 +133,7 @@ impl<'a> Build<'a> for FloatType {
 
     ghost tree = { float_type_tree };
 
-    fn build(alloc: Global, table: &Ends<'a>, _rule: Rule, at: At) -> BuildResult<Self> {
+    fn build(alloc: Global, table: Table<'_, 'a>, _rule: Rule, at: At) -> BuildResult<Self> {
         let ((unrestricted, float), at) = two_fields::<Option<Unrestricted>, Float>(
             alloc,
             table,
@@ -156,7 +157,7 @@ impl<'a> Build<'a> for DoubleType {
 
     ghost tree = { double_type_tree };
 
-    fn build(alloc: Global, table: &Ends<'a>, _rule: Rule, at: At) -> BuildResult<Self> {
+    fn build(alloc: Global, table: Table<'_, 'a>, _rule: Rule, at: At) -> BuildResult<Self> {
         let ((unrestricted, double), at) = two_fields::<Option<Unrestricted>, Double>(
             alloc,
             table,
@@ -180,7 +181,7 @@ impl<'a> Build<'a> for FloatingPointType {
 
     ghost tree = { floating_point_type_tree };
 
-    fn build(alloc: Global, table: &Ends<'a>, _rule: Rule, at: At) -> BuildResult<Self> {
+    fn build(alloc: Global, table: Table<'_, 'a>, _rule: Rule, at: At) -> BuildResult<Self> {
         let rule = Rule::FLOATING_POINT_TYPE;
         match choice(table, rule, at.place) {
             0 => {
@@ -203,7 +204,7 @@ impl<'a> Build<'a> for ConstType<'a> {
 
     ghost tree = { const_type_tree };
 
-    fn build(alloc: Global, table: &Ends<'a>, _rule: Rule, at: At) -> BuildResult<Self> {
+    fn build(alloc: Global, table: Table<'_, 'a>, _rule: Rule, at: At) -> BuildResult<Self> {
         let rule = Rule::CONST_TYPE;
         match choice(table, rule, at.place) {
             0 => {

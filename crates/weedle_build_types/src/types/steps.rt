@@ -2,24 +2,24 @@
 
 ghost use Rattle.std.specs.Prelude.{ℕ, IfOk};
 ghost use Rattle.weedle_base.specs.Rules.{option_tree};
-ghost use Rattle.weedle_build_base.specs.Built.{Answers};
-ghost use Rattle.weedle_build_types.specs.Steps.{IsOption, IsPlace, Keeps};
+ghost use Rattle.weedle_build_base.specs.Built.{Answers, IsTried};
+ghost use Rattle.weedle_build_types.specs.Steps.{IsOption, Keeps};
 
 use std::alloc::{AllocError, Global};
-use weedle_build_base::{At, Build, BuildResult, visit};
-use weedle_rules::{Ends, Rule};
+use weedle_build_base::{At, Build, BuildResult, Table, visit};
+use weedle_rules::Rule;
 
 /// Builds what is at a place of a rule that takes the item or nothing.
 pub(crate) fn optional<'a, T: Build<'a>>(
     alloc: Global,
-    table: &Ends<'a>,
+    table: Table<'_, 'a>,
     item: Rule,
     at: At,
 ) -> BuildResult<Option<T::Value>>
     requires fit { T.fits item }
-    requires place { IsPlace table.now.text at.place }
+    requires tried { IsTried table.text.now item at.place }
     ensures { (r : ℕ) → IsOption item r
-        → Answers table.now.text r (option_tree T.tree) at.place at.visits result }
+        → Answers table.entry.text.now r (option_tree T.tree) at.place at.visits result }
 {
     match table.end(item, at.place) {
         Some(_) => {

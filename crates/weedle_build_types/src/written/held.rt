@@ -21,8 +21,8 @@ use crate::types::arguments::arguments;
 use crate::types::attributes::extended_attribute_list;
 use crate::types::kinds::{attributed_type, return_type, type_};
 use std::alloc::Global;
-use weedle_build_base::{At, Build, BuildResult};
-use weedle_rules::{Ends, Rule};
+use weedle_build_base::{At, Build, BuildResult, Table};
+use weedle_rules::Rule;
 use weedle_types::argument::ParenthesizedArgumentList;
 use weedle_types::attribute::ExtendedAttributeList;
 use weedle_types::types::{AttributedType, ReturnType, Type};
@@ -37,7 +37,7 @@ impl<'a> Build<'a> for Held<Type<'a>> {
 
     ghost tree = { type_tree };
 
-    fn build(alloc: Global, table: &Ends<'a>, _rule: Rule, at: At) -> BuildResult<Type<'a>> {
+    fn build(alloc: Global, table: Table<'_, 'a>, _rule: Rule, at: At) -> BuildResult<Type<'a>> {
         type_(alloc, table, at)
     }
 }
@@ -49,7 +49,12 @@ impl<'a> Build<'a> for Held<ReturnType<'a>> {
 
     ghost tree = { return_type_tree };
 
-    fn build(alloc: Global, table: &Ends<'a>, _rule: Rule, at: At) -> BuildResult<ReturnType<'a>> {
+    fn build(
+        alloc: Global,
+        table: Table<'_, 'a>,
+        _rule: Rule,
+        at: At,
+    ) -> BuildResult<ReturnType<'a>> {
         return_type(alloc, table, at)
     }
 }
@@ -63,7 +68,7 @@ impl<'a> Build<'a> for Held<AttributedType<'a>> {
 
     fn build(
         alloc: Global,
-        table: &Ends<'a>,
+        table: Table<'_, 'a>,
         _rule: Rule,
         at: At,
     ) -> BuildResult<AttributedType<'a>> {
@@ -80,7 +85,7 @@ impl<'a> Build<'a> for Held<ExtendedAttributeList<'a>> {
 
     fn build(
         alloc: Global,
-        table: &Ends<'a>,
+        table: Table<'_, 'a>,
         _rule: Rule,
         at: At,
     ) -> BuildResult<ExtendedAttributeList<'a>> {
@@ -97,7 +102,7 @@ impl<'a> Build<'a> for Held<ParenthesizedArgumentList<'a>> {
 
     fn build(
         alloc: Global,
-        table: &Ends<'a>,
+        table: Table<'_, 'a>,
         _rule: Rule,
         at: At,
     ) -> BuildResult<ParenthesizedArgumentList<'a>> {

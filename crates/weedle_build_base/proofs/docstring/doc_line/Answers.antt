@@ -16,12 +16,12 @@ pub range-requires-clause-start_le_end : goal.range-requires-clause-start_le_end
 range-requires-clause-start_le_end c = let a = line_after c.requires c.end_at-blanks.ensures c.end_at-start.ensures c.end_at-end.ensures in omega arith
 
 pub range-requires-clause-start_boundary : goal.range-requires-clause-start_boundary
-range-requires-clause-start_boundary c = λ positive. rw c.text-text.ensures (line_start c.requires c.end_at-blanks.ensures c.end_at-start.ensures)
+range-requires-clause-start_boundary c = λ positive. line_start c.requires c.end_at-blanks.ensures c.end_at-start.ensures
 
 pub range-requires-clause-end_boundary : goal.range-requires-clause-end_boundary
-range-requires-clause-end_boundary c = rw c.text-text.ensures (line_boundary c.requires c.end_at-blanks.ensures c.end_at-start.ensures c.end_at-end.ensures)
+range-requires-clause-end_boundary c = line_boundary c.requires c.end_at-blanks.ensures c.end_at-start.ensures c.end_at-end.ensures
 
 pub returns : goal.returns
 returns c =
-    let b : c.range.result.now ≡ between c.args.table.now.text c.end_at-start.result (c.end_at-end.result - 1) = rw c.text-text.ensures at c.range.ensures.value in
+    let b : c.range.result.now ≡ between c.args.table.text.now c.end_at-start.result (c.end_at-end.result - 1) = c.range.ensures.value in
     line_reads c.requires c.end_at-blanks.ensures c.end_at-start.ensures c.end_at-end.ensures b

@@ -1,7 +1,7 @@
 use Rattle.std.proofs.Common.{refl, arith}
 use Rattle.weedle_grammar.specs.written.Table.{row_of, shape_of}
 use Rattle.weedle_build_base.proofs.Repeats.{map_push}
-use Rattle.weedle_build_base.proofs.Separated.{fits_tail_is, listing_start, listing_next, listing_end, listing_back, behind_boundary, behind_due}
+use Rattle.weedle_build_base.proofs.Separated.{fits_tail_is, listing_start, listing_next, listing_end, listing_back, separator_tried, behind_tried, behind_due}
 use Rattle.weedle_build_base.proofs.lists.items.Goals as goal
 
 pub build-requires : goal.build-requires
@@ -13,10 +13,10 @@ loop-behind-init g c =
     rw (c.in_ok-push.ensures.items, c.new-list.ensures.items) (listing_start c.requires.due r.0 c.in_ok-first.ensures)
 
 pub end-requires : goal.end-requires
-end-requires g c = c.loop-behind.invariant.tail.boundary.0
+end-requires g c = separator_tried c.loop-behind.invariant.tail
 
 pub end-requires-in-Some : goal.end-requires-in-Some
-end-requires-in-Some g c = (behind_boundary c.loop-behind.invariant.tail c.in-Some.ensures.right).0
+end-requires-in-Some g c = behind_tried c.loop-behind.invariant.tail c.in-Some.ensures.right
 
 pub returns-in_default-end-2 : goal.returns-in_default-end-2
 returns-in_default-end-2 g c =
@@ -27,7 +27,7 @@ pub build-requires-in-Some : goal.build-requires-in-Some
 build-requires-in-Some g c κs = ((refl, tt), (c.requires.fit, behind_due c.loop-behind.invariant.tail c.in-Some.ensures.right c.in-Some-end.ensures.right))
 
 pub loop-behind-smaller : goal.loop-behind-smaller
-loop-behind-smaller g c = let n = listing_next c.loop-behind.invariant c.in-Some.ensures.right c.in_ok-value.ensures in omega (arith, n.1, n.0.tail.boundary.0)
+loop-behind-smaller g c = let n = listing_next c.loop-behind.invariant c.in-Some.ensures.right c.in_ok-value.ensures in omega (arith, n.1, n.0.tail.due.boundary.0)
 
 pub loop-behind-preserved : goal.loop-behind-preserved
 loop-behind-preserved g c =

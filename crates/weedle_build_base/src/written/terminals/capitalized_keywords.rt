@@ -31,13 +31,14 @@ ghost use Rattle.weedle_base.specs.Rules.{mark_tree};
 
 use crate::at::At;
 use crate::build::{Build, BuildResult, mark};
+use crate::table::Table;
 use std::alloc::Global;
 use weedle_base::term::{
     ArrayBuffer, ArrayBufferView, BufferSource, ByteString, DOMString, DataView, Error,
     Float32Array, Float64Array, FrozenArray, Infinity, Int8Array, Int16Array, Int32Array, NaN,
     NegInfinity, Promise, USVString, Uint8Array, Uint8ClampedArray, Uint16Array, Uint32Array,
 };
-use weedle_rules::{Ends, Rule};
+use weedle_rules::Rule;
 
 impl<'a> Build<'a> for ByteString {
     type Value = Self;
@@ -46,7 +47,7 @@ impl<'a> Build<'a> for ByteString {
 
     ghost tree = { mark_tree };
 
-    fn build(_alloc: Global, table: &Ends<'a>, rule: Rule, at: At) -> BuildResult<Self> {
+    fn build(_alloc: Global, table: Table<'_, 'a>, rule: Rule, at: At) -> BuildResult<Self> {
         Ok((ByteString, mark(table, rule, at)))
     }
 }
@@ -58,7 +59,7 @@ impl<'a> Build<'a> for DOMString {
 
     ghost tree = { mark_tree };
 
-    fn build(_alloc: Global, table: &Ends<'a>, rule: Rule, at: At) -> BuildResult<Self> {
+    fn build(_alloc: Global, table: Table<'_, 'a>, rule: Rule, at: At) -> BuildResult<Self> {
         Ok((DOMString, mark(table, rule, at)))
     }
 }
@@ -70,7 +71,7 @@ impl<'a> Build<'a> for FrozenArray {
 
     ghost tree = { mark_tree };
 
-    fn build(_alloc: Global, table: &Ends<'a>, rule: Rule, at: At) -> BuildResult<Self> {
+    fn build(_alloc: Global, table: Table<'_, 'a>, rule: Rule, at: At) -> BuildResult<Self> {
         Ok((FrozenArray, mark(table, rule, at)))
     }
 }
@@ -82,7 +83,7 @@ impl<'a> Build<'a> for Infinity {
 
     ghost tree = { mark_tree };
 
-    fn build(_alloc: Global, table: &Ends<'a>, rule: Rule, at: At) -> BuildResult<Self> {
+    fn build(_alloc: Global, table: Table<'_, 'a>, rule: Rule, at: At) -> BuildResult<Self> {
         Ok((Infinity, mark(table, rule, at)))
     }
 }
@@ -94,7 +95,7 @@ impl<'a> Build<'a> for NaN {
 
     ghost tree = { mark_tree };
 
-    fn build(_alloc: Global, table: &Ends<'a>, rule: Rule, at: At) -> BuildResult<Self> {
+    fn build(_alloc: Global, table: Table<'_, 'a>, rule: Rule, at: At) -> BuildResult<Self> {
         Ok((NaN, mark(table, rule, at)))
     }
 }
@@ -106,7 +107,7 @@ impl<'a> Build<'a> for USVString {
 
     ghost tree = { mark_tree };
 
-    fn build(_alloc: Global, table: &Ends<'a>, rule: Rule, at: At) -> BuildResult<Self> {
+    fn build(_alloc: Global, table: Table<'_, 'a>, rule: Rule, at: At) -> BuildResult<Self> {
         Ok((USVString, mark(table, rule, at)))
     }
 }
@@ -118,7 +119,7 @@ impl<'a> Build<'a> for ArrayBuffer {
 
     ghost tree = { mark_tree };
 
-    fn build(_alloc: Global, table: &Ends<'a>, rule: Rule, at: At) -> BuildResult<Self> {
+    fn build(_alloc: Global, table: Table<'_, 'a>, rule: Rule, at: At) -> BuildResult<Self> {
         Ok((ArrayBuffer, mark(table, rule, at)))
     }
 }
@@ -130,7 +131,7 @@ impl<'a> Build<'a> for DataView {
 
     ghost tree = { mark_tree };
 
-    fn build(_alloc: Global, table: &Ends<'a>, rule: Rule, at: At) -> BuildResult<Self> {
+    fn build(_alloc: Global, table: Table<'_, 'a>, rule: Rule, at: At) -> BuildResult<Self> {
         Ok((DataView, mark(table, rule, at)))
     }
 }
@@ -142,7 +143,7 @@ impl<'a> Build<'a> for Int8Array {
 
     ghost tree = { mark_tree };
 
-    fn build(_alloc: Global, table: &Ends<'a>, rule: Rule, at: At) -> BuildResult<Self> {
+    fn build(_alloc: Global, table: Table<'_, 'a>, rule: Rule, at: At) -> BuildResult<Self> {
         Ok((Int8Array, mark(table, rule, at)))
     }
 }
@@ -154,7 +155,7 @@ impl<'a> Build<'a> for Int16Array {
 
     ghost tree = { mark_tree };
 
-    fn build(_alloc: Global, table: &Ends<'a>, rule: Rule, at: At) -> BuildResult<Self> {
+    fn build(_alloc: Global, table: Table<'_, 'a>, rule: Rule, at: At) -> BuildResult<Self> {
         Ok((Int16Array, mark(table, rule, at)))
     }
 }
@@ -166,7 +167,7 @@ impl<'a> Build<'a> for Int32Array {
 
     ghost tree = { mark_tree };
 
-    fn build(_alloc: Global, table: &Ends<'a>, rule: Rule, at: At) -> BuildResult<Self> {
+    fn build(_alloc: Global, table: Table<'_, 'a>, rule: Rule, at: At) -> BuildResult<Self> {
         Ok((Int32Array, mark(table, rule, at)))
     }
 }
@@ -178,7 +179,7 @@ impl<'a> Build<'a> for Uint8Array {
 
     ghost tree = { mark_tree };
 
-    fn build(_alloc: Global, table: &Ends<'a>, rule: Rule, at: At) -> BuildResult<Self> {
+    fn build(_alloc: Global, table: Table<'_, 'a>, rule: Rule, at: At) -> BuildResult<Self> {
         Ok((Uint8Array, mark(table, rule, at)))
     }
 }
@@ -190,7 +191,7 @@ impl<'a> Build<'a> for Uint16Array {
 
     ghost tree = { mark_tree };
 
-    fn build(_alloc: Global, table: &Ends<'a>, rule: Rule, at: At) -> BuildResult<Self> {
+    fn build(_alloc: Global, table: Table<'_, 'a>, rule: Rule, at: At) -> BuildResult<Self> {
         Ok((Uint16Array, mark(table, rule, at)))
     }
 }
@@ -202,7 +203,7 @@ impl<'a> Build<'a> for Uint32Array {
 
     ghost tree = { mark_tree };
 
-    fn build(_alloc: Global, table: &Ends<'a>, rule: Rule, at: At) -> BuildResult<Self> {
+    fn build(_alloc: Global, table: Table<'_, 'a>, rule: Rule, at: At) -> BuildResult<Self> {
         Ok((Uint32Array, mark(table, rule, at)))
     }
 }
@@ -214,7 +215,7 @@ impl<'a> Build<'a> for Uint8ClampedArray {
 
     ghost tree = { mark_tree };
 
-    fn build(_alloc: Global, table: &Ends<'a>, rule: Rule, at: At) -> BuildResult<Self> {
+    fn build(_alloc: Global, table: Table<'_, 'a>, rule: Rule, at: At) -> BuildResult<Self> {
         Ok((Uint8ClampedArray, mark(table, rule, at)))
     }
 }
@@ -226,7 +227,7 @@ impl<'a> Build<'a> for Float32Array {
 
     ghost tree = { mark_tree };
 
-    fn build(_alloc: Global, table: &Ends<'a>, rule: Rule, at: At) -> BuildResult<Self> {
+    fn build(_alloc: Global, table: Table<'_, 'a>, rule: Rule, at: At) -> BuildResult<Self> {
         Ok((Float32Array, mark(table, rule, at)))
     }
 }
@@ -238,7 +239,7 @@ impl<'a> Build<'a> for Float64Array {
 
     ghost tree = { mark_tree };
 
-    fn build(_alloc: Global, table: &Ends<'a>, rule: Rule, at: At) -> BuildResult<Self> {
+    fn build(_alloc: Global, table: Table<'_, 'a>, rule: Rule, at: At) -> BuildResult<Self> {
         Ok((Float64Array, mark(table, rule, at)))
     }
 }
@@ -250,7 +251,7 @@ impl<'a> Build<'a> for ArrayBufferView {
 
     ghost tree = { mark_tree };
 
-    fn build(_alloc: Global, table: &Ends<'a>, rule: Rule, at: At) -> BuildResult<Self> {
+    fn build(_alloc: Global, table: Table<'_, 'a>, rule: Rule, at: At) -> BuildResult<Self> {
         Ok((ArrayBufferView, mark(table, rule, at)))
     }
 }
@@ -262,7 +263,7 @@ impl<'a> Build<'a> for BufferSource {
 
     ghost tree = { mark_tree };
 
-    fn build(_alloc: Global, table: &Ends<'a>, rule: Rule, at: At) -> BuildResult<Self> {
+    fn build(_alloc: Global, table: Table<'_, 'a>, rule: Rule, at: At) -> BuildResult<Self> {
         Ok((BufferSource, mark(table, rule, at)))
     }
 }
@@ -274,7 +275,7 @@ impl<'a> Build<'a> for Promise {
 
     ghost tree = { mark_tree };
 
-    fn build(_alloc: Global, table: &Ends<'a>, rule: Rule, at: At) -> BuildResult<Self> {
+    fn build(_alloc: Global, table: Table<'_, 'a>, rule: Rule, at: At) -> BuildResult<Self> {
         Ok((Promise, mark(table, rule, at)))
     }
 }
@@ -286,7 +287,7 @@ impl<'a> Build<'a> for Error {
 
     ghost tree = { mark_tree };
 
-    fn build(_alloc: Global, table: &Ends<'a>, rule: Rule, at: At) -> BuildResult<Self> {
+    fn build(_alloc: Global, table: Table<'_, 'a>, rule: Rule, at: At) -> BuildResult<Self> {
         Ok((Error, mark(table, rule, at)))
     }
 }
@@ -298,7 +299,7 @@ impl<'a> Build<'a> for NegInfinity {
 
     ghost tree = { mark_tree };
 
-    fn build(_alloc: Global, table: &Ends<'a>, rule: Rule, at: At) -> BuildResult<Self> {
+    fn build(_alloc: Global, table: Table<'_, 'a>, rule: Rule, at: At) -> BuildResult<Self> {
         Ok((NegInfinity, mark(table, rule, at)))
     }
 }

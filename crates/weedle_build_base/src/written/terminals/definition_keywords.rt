@@ -35,13 +35,14 @@ ghost use Rattle.weedle_base.specs.Rules.{mark_tree};
 
 use crate::at::At;
 use crate::build::{Build, BuildResult, mark};
+use crate::table::Table;
 use std::alloc::Global;
 use weedle_base::term::{
     Async, Attribute, Callback, Const, Constructor, Deleter, Dictionary, Enum, Getter, Implements,
     Includes, Inherit, Interface, Iterable, LegacyCaller, Maplike, Mixin, Namespace, Partial,
     ReadOnly, Required, Setlike, Setter, Static, Stringifier, Typedef,
 };
-use weedle_rules::{Ends, Rule};
+use weedle_rules::Rule;
 
 impl<'a> Build<'a> for Async {
     type Value = Self;
@@ -50,7 +51,7 @@ impl<'a> Build<'a> for Async {
 
     ghost tree = { mark_tree };
 
-    fn build(_alloc: Global, table: &Ends<'a>, rule: Rule, at: At) -> BuildResult<Self> {
+    fn build(_alloc: Global, table: Table<'_, 'a>, rule: Rule, at: At) -> BuildResult<Self> {
         Ok((Async, mark(table, rule, at)))
     }
 }
@@ -62,7 +63,7 @@ impl<'a> Build<'a> for Attribute {
 
     ghost tree = { mark_tree };
 
-    fn build(_alloc: Global, table: &Ends<'a>, rule: Rule, at: At) -> BuildResult<Self> {
+    fn build(_alloc: Global, table: Table<'_, 'a>, rule: Rule, at: At) -> BuildResult<Self> {
         Ok((Attribute, mark(table, rule, at)))
     }
 }
@@ -74,7 +75,7 @@ impl<'a> Build<'a> for Callback {
 
     ghost tree = { mark_tree };
 
-    fn build(_alloc: Global, table: &Ends<'a>, rule: Rule, at: At) -> BuildResult<Self> {
+    fn build(_alloc: Global, table: Table<'_, 'a>, rule: Rule, at: At) -> BuildResult<Self> {
         Ok((Callback, mark(table, rule, at)))
     }
 }
@@ -86,7 +87,7 @@ impl<'a> Build<'a> for Const {
 
     ghost tree = { mark_tree };
 
-    fn build(_alloc: Global, table: &Ends<'a>, rule: Rule, at: At) -> BuildResult<Self> {
+    fn build(_alloc: Global, table: Table<'_, 'a>, rule: Rule, at: At) -> BuildResult<Self> {
         Ok((Const, mark(table, rule, at)))
     }
 }
@@ -98,7 +99,7 @@ impl<'a> Build<'a> for Deleter {
 
     ghost tree = { mark_tree };
 
-    fn build(_alloc: Global, table: &Ends<'a>, rule: Rule, at: At) -> BuildResult<Self> {
+    fn build(_alloc: Global, table: Table<'_, 'a>, rule: Rule, at: At) -> BuildResult<Self> {
         Ok((Deleter, mark(table, rule, at)))
     }
 }
@@ -110,7 +111,7 @@ impl<'a> Build<'a> for Dictionary {
 
     ghost tree = { mark_tree };
 
-    fn build(_alloc: Global, table: &Ends<'a>, rule: Rule, at: At) -> BuildResult<Self> {
+    fn build(_alloc: Global, table: Table<'_, 'a>, rule: Rule, at: At) -> BuildResult<Self> {
         Ok((Dictionary, mark(table, rule, at)))
     }
 }
@@ -122,7 +123,7 @@ impl<'a> Build<'a> for Enum {
 
     ghost tree = { mark_tree };
 
-    fn build(_alloc: Global, table: &Ends<'a>, rule: Rule, at: At) -> BuildResult<Self> {
+    fn build(_alloc: Global, table: Table<'_, 'a>, rule: Rule, at: At) -> BuildResult<Self> {
         Ok((Enum, mark(table, rule, at)))
     }
 }
@@ -134,7 +135,7 @@ impl<'a> Build<'a> for Getter {
 
     ghost tree = { mark_tree };
 
-    fn build(_alloc: Global, table: &Ends<'a>, rule: Rule, at: At) -> BuildResult<Self> {
+    fn build(_alloc: Global, table: Table<'_, 'a>, rule: Rule, at: At) -> BuildResult<Self> {
         Ok((Getter, mark(table, rule, at)))
     }
 }
@@ -146,7 +147,7 @@ impl<'a> Build<'a> for Includes {
 
     ghost tree = { mark_tree };
 
-    fn build(_alloc: Global, table: &Ends<'a>, rule: Rule, at: At) -> BuildResult<Self> {
+    fn build(_alloc: Global, table: Table<'_, 'a>, rule: Rule, at: At) -> BuildResult<Self> {
         Ok((Includes, mark(table, rule, at)))
     }
 }
@@ -158,7 +159,7 @@ impl<'a> Build<'a> for Inherit {
 
     ghost tree = { mark_tree };
 
-    fn build(_alloc: Global, table: &Ends<'a>, rule: Rule, at: At) -> BuildResult<Self> {
+    fn build(_alloc: Global, table: Table<'_, 'a>, rule: Rule, at: At) -> BuildResult<Self> {
         Ok((Inherit, mark(table, rule, at)))
     }
 }
@@ -170,7 +171,7 @@ impl<'a> Build<'a> for Interface {
 
     ghost tree = { mark_tree };
 
-    fn build(_alloc: Global, table: &Ends<'a>, rule: Rule, at: At) -> BuildResult<Self> {
+    fn build(_alloc: Global, table: Table<'_, 'a>, rule: Rule, at: At) -> BuildResult<Self> {
         Ok((Interface, mark(table, rule, at)))
     }
 }
@@ -182,7 +183,7 @@ impl<'a> Build<'a> for Iterable {
 
     ghost tree = { mark_tree };
 
-    fn build(_alloc: Global, table: &Ends<'a>, rule: Rule, at: At) -> BuildResult<Self> {
+    fn build(_alloc: Global, table: Table<'_, 'a>, rule: Rule, at: At) -> BuildResult<Self> {
         Ok((Iterable, mark(table, rule, at)))
     }
 }
@@ -194,7 +195,7 @@ impl<'a> Build<'a> for Maplike {
 
     ghost tree = { mark_tree };
 
-    fn build(_alloc: Global, table: &Ends<'a>, rule: Rule, at: At) -> BuildResult<Self> {
+    fn build(_alloc: Global, table: Table<'_, 'a>, rule: Rule, at: At) -> BuildResult<Self> {
         Ok((Maplike, mark(table, rule, at)))
     }
 }
@@ -206,7 +207,7 @@ impl<'a> Build<'a> for Namespace {
 
     ghost tree = { mark_tree };
 
-    fn build(_alloc: Global, table: &Ends<'a>, rule: Rule, at: At) -> BuildResult<Self> {
+    fn build(_alloc: Global, table: Table<'_, 'a>, rule: Rule, at: At) -> BuildResult<Self> {
         Ok((Namespace, mark(table, rule, at)))
     }
 }
@@ -218,7 +219,7 @@ impl<'a> Build<'a> for Partial {
 
     ghost tree = { mark_tree };
 
-    fn build(_alloc: Global, table: &Ends<'a>, rule: Rule, at: At) -> BuildResult<Self> {
+    fn build(_alloc: Global, table: Table<'_, 'a>, rule: Rule, at: At) -> BuildResult<Self> {
         Ok((Partial, mark(table, rule, at)))
     }
 }
@@ -230,7 +231,7 @@ impl<'a> Build<'a> for Required {
 
     ghost tree = { mark_tree };
 
-    fn build(_alloc: Global, table: &Ends<'a>, rule: Rule, at: At) -> BuildResult<Self> {
+    fn build(_alloc: Global, table: Table<'_, 'a>, rule: Rule, at: At) -> BuildResult<Self> {
         Ok((Required, mark(table, rule, at)))
     }
 }
@@ -242,7 +243,7 @@ impl<'a> Build<'a> for Setlike {
 
     ghost tree = { mark_tree };
 
-    fn build(_alloc: Global, table: &Ends<'a>, rule: Rule, at: At) -> BuildResult<Self> {
+    fn build(_alloc: Global, table: Table<'_, 'a>, rule: Rule, at: At) -> BuildResult<Self> {
         Ok((Setlike, mark(table, rule, at)))
     }
 }
@@ -254,7 +255,7 @@ impl<'a> Build<'a> for Setter {
 
     ghost tree = { mark_tree };
 
-    fn build(_alloc: Global, table: &Ends<'a>, rule: Rule, at: At) -> BuildResult<Self> {
+    fn build(_alloc: Global, table: Table<'_, 'a>, rule: Rule, at: At) -> BuildResult<Self> {
         Ok((Setter, mark(table, rule, at)))
     }
 }
@@ -266,7 +267,7 @@ impl<'a> Build<'a> for Static {
 
     ghost tree = { mark_tree };
 
-    fn build(_alloc: Global, table: &Ends<'a>, rule: Rule, at: At) -> BuildResult<Self> {
+    fn build(_alloc: Global, table: Table<'_, 'a>, rule: Rule, at: At) -> BuildResult<Self> {
         Ok((Static, mark(table, rule, at)))
     }
 }
@@ -278,7 +279,7 @@ impl<'a> Build<'a> for Stringifier {
 
     ghost tree = { mark_tree };
 
-    fn build(_alloc: Global, table: &Ends<'a>, rule: Rule, at: At) -> BuildResult<Self> {
+    fn build(_alloc: Global, table: Table<'_, 'a>, rule: Rule, at: At) -> BuildResult<Self> {
         Ok((Stringifier, mark(table, rule, at)))
     }
 }
@@ -290,7 +291,7 @@ impl<'a> Build<'a> for Typedef {
 
     ghost tree = { mark_tree };
 
-    fn build(_alloc: Global, table: &Ends<'a>, rule: Rule, at: At) -> BuildResult<Self> {
+    fn build(_alloc: Global, table: Table<'_, 'a>, rule: Rule, at: At) -> BuildResult<Self> {
         Ok((Typedef, mark(table, rule, at)))
     }
 }
@@ -302,7 +303,7 @@ impl<'a> Build<'a> for ReadOnly {
 
     ghost tree = { mark_tree };
 
-    fn build(_alloc: Global, table: &Ends<'a>, rule: Rule, at: At) -> BuildResult<Self> {
+    fn build(_alloc: Global, table: Table<'_, 'a>, rule: Rule, at: At) -> BuildResult<Self> {
         Ok((ReadOnly, mark(table, rule, at)))
     }
 }
@@ -314,7 +315,7 @@ impl<'a> Build<'a> for Mixin {
 
     ghost tree = { mark_tree };
 
-    fn build(_alloc: Global, table: &Ends<'a>, rule: Rule, at: At) -> BuildResult<Self> {
+    fn build(_alloc: Global, table: Table<'_, 'a>, rule: Rule, at: At) -> BuildResult<Self> {
         Ok((Mixin, mark(table, rule, at)))
     }
 }
@@ -326,7 +327,7 @@ impl<'a> Build<'a> for Implements {
 
     ghost tree = { mark_tree };
 
-    fn build(_alloc: Global, table: &Ends<'a>, rule: Rule, at: At) -> BuildResult<Self> {
+    fn build(_alloc: Global, table: Table<'_, 'a>, rule: Rule, at: At) -> BuildResult<Self> {
         Ok((Implements, mark(table, rule, at)))
     }
 }
@@ -338,7 +339,7 @@ impl<'a> Build<'a> for LegacyCaller {
 
     ghost tree = { mark_tree };
 
-    fn build(_alloc: Global, table: &Ends<'a>, rule: Rule, at: At) -> BuildResult<Self> {
+    fn build(_alloc: Global, table: Table<'_, 'a>, rule: Rule, at: At) -> BuildResult<Self> {
         Ok((LegacyCaller, mark(table, rule, at)))
     }
 }
@@ -350,7 +351,7 @@ impl<'a> Build<'a> for Constructor {
 
     ghost tree = { mark_tree };
 
-    fn build(_alloc: Global, table: &Ends<'a>, rule: Rule, at: At) -> BuildResult<Self> {
+    fn build(_alloc: Global, table: Table<'_, 'a>, rule: Rule, at: At) -> BuildResult<Self> {
         Ok((Constructor, mark(table, rule, at)))
     }
 }

@@ -25,12 +25,13 @@ ghost use Rattle.weedle_base.specs.Rules.{mark_tree};
 
 use crate::at::At;
 use crate::build::{Build, BuildResult, mark};
+use crate::table::Table;
 use std::alloc::Global;
 use weedle_base::term::{
     Assign, CloseBrace, CloseBracket, CloseParen, Colon, Comma, Dot, Ellipsis, GreaterThan,
     LessThan, Minus, OpenBrace, OpenBracket, OpenParen, QMark, SemiColon,
 };
-use weedle_rules::{Ends, Rule};
+use weedle_rules::Rule;
 
 impl<'a> Build<'a> for OpenParen {
     type Value = Self;
@@ -39,7 +40,7 @@ impl<'a> Build<'a> for OpenParen {
 
     ghost tree = { mark_tree };
 
-    fn build(_alloc: Global, table: &Ends<'a>, rule: Rule, at: At) -> BuildResult<Self> {
+    fn build(_alloc: Global, table: Table<'_, 'a>, rule: Rule, at: At) -> BuildResult<Self> {
         Ok((OpenParen, mark(table, rule, at)))
     }
 }
@@ -51,7 +52,7 @@ impl<'a> Build<'a> for CloseParen {
 
     ghost tree = { mark_tree };
 
-    fn build(_alloc: Global, table: &Ends<'a>, rule: Rule, at: At) -> BuildResult<Self> {
+    fn build(_alloc: Global, table: Table<'_, 'a>, rule: Rule, at: At) -> BuildResult<Self> {
         Ok((CloseParen, mark(table, rule, at)))
     }
 }
@@ -63,7 +64,7 @@ impl<'a> Build<'a> for OpenBracket {
 
     ghost tree = { mark_tree };
 
-    fn build(_alloc: Global, table: &Ends<'a>, rule: Rule, at: At) -> BuildResult<Self> {
+    fn build(_alloc: Global, table: Table<'_, 'a>, rule: Rule, at: At) -> BuildResult<Self> {
         Ok((OpenBracket, mark(table, rule, at)))
     }
 }
@@ -75,7 +76,7 @@ impl<'a> Build<'a> for CloseBracket {
 
     ghost tree = { mark_tree };
 
-    fn build(_alloc: Global, table: &Ends<'a>, rule: Rule, at: At) -> BuildResult<Self> {
+    fn build(_alloc: Global, table: Table<'_, 'a>, rule: Rule, at: At) -> BuildResult<Self> {
         Ok((CloseBracket, mark(table, rule, at)))
     }
 }
@@ -87,7 +88,7 @@ impl<'a> Build<'a> for OpenBrace {
 
     ghost tree = { mark_tree };
 
-    fn build(_alloc: Global, table: &Ends<'a>, rule: Rule, at: At) -> BuildResult<Self> {
+    fn build(_alloc: Global, table: Table<'_, 'a>, rule: Rule, at: At) -> BuildResult<Self> {
         Ok((OpenBrace, mark(table, rule, at)))
     }
 }
@@ -99,7 +100,7 @@ impl<'a> Build<'a> for CloseBrace {
 
     ghost tree = { mark_tree };
 
-    fn build(_alloc: Global, table: &Ends<'a>, rule: Rule, at: At) -> BuildResult<Self> {
+    fn build(_alloc: Global, table: Table<'_, 'a>, rule: Rule, at: At) -> BuildResult<Self> {
         Ok((CloseBrace, mark(table, rule, at)))
     }
 }
@@ -111,7 +112,7 @@ impl<'a> Build<'a> for Comma {
 
     ghost tree = { mark_tree };
 
-    fn build(_alloc: Global, table: &Ends<'a>, rule: Rule, at: At) -> BuildResult<Self> {
+    fn build(_alloc: Global, table: Table<'_, 'a>, rule: Rule, at: At) -> BuildResult<Self> {
         Ok((Comma, mark(table, rule, at)))
     }
 }
@@ -123,7 +124,7 @@ impl<'a> Build<'a> for Minus {
 
     ghost tree = { mark_tree };
 
-    fn build(_alloc: Global, table: &Ends<'a>, rule: Rule, at: At) -> BuildResult<Self> {
+    fn build(_alloc: Global, table: Table<'_, 'a>, rule: Rule, at: At) -> BuildResult<Self> {
         Ok((Minus, mark(table, rule, at)))
     }
 }
@@ -135,7 +136,7 @@ impl<'a> Build<'a> for Dot {
 
     ghost tree = { mark_tree };
 
-    fn build(_alloc: Global, table: &Ends<'a>, rule: Rule, at: At) -> BuildResult<Self> {
+    fn build(_alloc: Global, table: Table<'_, 'a>, rule: Rule, at: At) -> BuildResult<Self> {
         Ok((Dot, mark(table, rule, at)))
     }
 }
@@ -147,7 +148,7 @@ impl<'a> Build<'a> for Ellipsis {
 
     ghost tree = { mark_tree };
 
-    fn build(_alloc: Global, table: &Ends<'a>, rule: Rule, at: At) -> BuildResult<Self> {
+    fn build(_alloc: Global, table: Table<'_, 'a>, rule: Rule, at: At) -> BuildResult<Self> {
         Ok((Ellipsis, mark(table, rule, at)))
     }
 }
@@ -159,7 +160,7 @@ impl<'a> Build<'a> for Colon {
 
     ghost tree = { mark_tree };
 
-    fn build(_alloc: Global, table: &Ends<'a>, rule: Rule, at: At) -> BuildResult<Self> {
+    fn build(_alloc: Global, table: Table<'_, 'a>, rule: Rule, at: At) -> BuildResult<Self> {
         Ok((Colon, mark(table, rule, at)))
     }
 }
@@ -171,7 +172,7 @@ impl<'a> Build<'a> for SemiColon {
 
     ghost tree = { mark_tree };
 
-    fn build(_alloc: Global, table: &Ends<'a>, rule: Rule, at: At) -> BuildResult<Self> {
+    fn build(_alloc: Global, table: Table<'_, 'a>, rule: Rule, at: At) -> BuildResult<Self> {
         Ok((SemiColon, mark(table, rule, at)))
     }
 }
@@ -183,7 +184,7 @@ impl<'a> Build<'a> for LessThan {
 
     ghost tree = { mark_tree };
 
-    fn build(_alloc: Global, table: &Ends<'a>, rule: Rule, at: At) -> BuildResult<Self> {
+    fn build(_alloc: Global, table: Table<'_, 'a>, rule: Rule, at: At) -> BuildResult<Self> {
         Ok((LessThan, mark(table, rule, at)))
     }
 }
@@ -195,7 +196,7 @@ impl<'a> Build<'a> for Assign {
 
     ghost tree = { mark_tree };
 
-    fn build(_alloc: Global, table: &Ends<'a>, rule: Rule, at: At) -> BuildResult<Self> {
+    fn build(_alloc: Global, table: Table<'_, 'a>, rule: Rule, at: At) -> BuildResult<Self> {
         Ok((Assign, mark(table, rule, at)))
     }
 }
@@ -207,7 +208,7 @@ impl<'a> Build<'a> for GreaterThan {
 
     ghost tree = { mark_tree };
 
-    fn build(_alloc: Global, table: &Ends<'a>, rule: Rule, at: At) -> BuildResult<Self> {
+    fn build(_alloc: Global, table: Table<'_, 'a>, rule: Rule, at: At) -> BuildResult<Self> {
         Ok((GreaterThan, mark(table, rule, at)))
     }
 }
@@ -219,7 +220,7 @@ impl<'a> Build<'a> for QMark {
 
     ghost tree = { mark_tree };
 
-    fn build(_alloc: Global, table: &Ends<'a>, rule: Rule, at: At) -> BuildResult<Self> {
+    fn build(_alloc: Global, table: Table<'_, 'a>, rule: Rule, at: At) -> BuildResult<Self> {
         Ok((QMark, mark(table, rule, at)))
     }
 }

@@ -29,12 +29,13 @@ ghost use Rattle.weedle_base.specs.Rules.{mark_tree};
 
 use crate::at::At;
 use crate::build::{Build, BuildResult, mark};
+use crate::table::Table;
 use std::alloc::Global;
 use weedle_base::term::{
     Any, Boolean, Byte, Double, False, Float, Long, Null, Object, Octet, Optional, Or, Record,
     Sequence, Short, Symbol, True, Undefined, Unrestricted, Unsigned,
 };
-use weedle_rules::{Ends, Rule};
+use weedle_rules::Rule;
 
 impl<'a> Build<'a> for Or {
     type Value = Self;
@@ -43,7 +44,7 @@ impl<'a> Build<'a> for Or {
 
     ghost tree = { mark_tree };
 
-    fn build(_alloc: Global, table: &Ends<'a>, rule: Rule, at: At) -> BuildResult<Self> {
+    fn build(_alloc: Global, table: Table<'_, 'a>, rule: Rule, at: At) -> BuildResult<Self> {
         Ok((Or, mark(table, rule, at)))
     }
 }
@@ -55,7 +56,7 @@ impl<'a> Build<'a> for Optional {
 
     ghost tree = { mark_tree };
 
-    fn build(_alloc: Global, table: &Ends<'a>, rule: Rule, at: At) -> BuildResult<Self> {
+    fn build(_alloc: Global, table: Table<'_, 'a>, rule: Rule, at: At) -> BuildResult<Self> {
         Ok((Optional, mark(table, rule, at)))
     }
 }
@@ -67,7 +68,7 @@ impl<'a> Build<'a> for Unrestricted {
 
     ghost tree = { mark_tree };
 
-    fn build(_alloc: Global, table: &Ends<'a>, rule: Rule, at: At) -> BuildResult<Self> {
+    fn build(_alloc: Global, table: Table<'_, 'a>, rule: Rule, at: At) -> BuildResult<Self> {
         Ok((Unrestricted, mark(table, rule, at)))
     }
 }
@@ -79,7 +80,7 @@ impl<'a> Build<'a> for Symbol {
 
     ghost tree = { mark_tree };
 
-    fn build(_alloc: Global, table: &Ends<'a>, rule: Rule, at: At) -> BuildResult<Self> {
+    fn build(_alloc: Global, table: Table<'_, 'a>, rule: Rule, at: At) -> BuildResult<Self> {
         Ok((Symbol, mark(table, rule, at)))
     }
 }
@@ -91,7 +92,7 @@ impl<'a> Build<'a> for Any {
 
     ghost tree = { mark_tree };
 
-    fn build(_alloc: Global, table: &Ends<'a>, rule: Rule, at: At) -> BuildResult<Self> {
+    fn build(_alloc: Global, table: Table<'_, 'a>, rule: Rule, at: At) -> BuildResult<Self> {
         Ok((Any, mark(table, rule, at)))
     }
 }
@@ -103,7 +104,7 @@ impl<'a> Build<'a> for Boolean {
 
     ghost tree = { mark_tree };
 
-    fn build(_alloc: Global, table: &Ends<'a>, rule: Rule, at: At) -> BuildResult<Self> {
+    fn build(_alloc: Global, table: Table<'_, 'a>, rule: Rule, at: At) -> BuildResult<Self> {
         Ok((Boolean, mark(table, rule, at)))
     }
 }
@@ -115,7 +116,7 @@ impl<'a> Build<'a> for Byte {
 
     ghost tree = { mark_tree };
 
-    fn build(_alloc: Global, table: &Ends<'a>, rule: Rule, at: At) -> BuildResult<Self> {
+    fn build(_alloc: Global, table: Table<'_, 'a>, rule: Rule, at: At) -> BuildResult<Self> {
         Ok((Byte, mark(table, rule, at)))
     }
 }
@@ -127,7 +128,7 @@ impl<'a> Build<'a> for Double {
 
     ghost tree = { mark_tree };
 
-    fn build(_alloc: Global, table: &Ends<'a>, rule: Rule, at: At) -> BuildResult<Self> {
+    fn build(_alloc: Global, table: Table<'_, 'a>, rule: Rule, at: At) -> BuildResult<Self> {
         Ok((Double, mark(table, rule, at)))
     }
 }
@@ -139,7 +140,7 @@ impl<'a> Build<'a> for False {
 
     ghost tree = { mark_tree };
 
-    fn build(_alloc: Global, table: &Ends<'a>, rule: Rule, at: At) -> BuildResult<Self> {
+    fn build(_alloc: Global, table: Table<'_, 'a>, rule: Rule, at: At) -> BuildResult<Self> {
         Ok((False, mark(table, rule, at)))
     }
 }
@@ -151,7 +152,7 @@ impl<'a> Build<'a> for Float {
 
     ghost tree = { mark_tree };
 
-    fn build(_alloc: Global, table: &Ends<'a>, rule: Rule, at: At) -> BuildResult<Self> {
+    fn build(_alloc: Global, table: Table<'_, 'a>, rule: Rule, at: At) -> BuildResult<Self> {
         Ok((Float, mark(table, rule, at)))
     }
 }
@@ -163,7 +164,7 @@ impl<'a> Build<'a> for Long {
 
     ghost tree = { mark_tree };
 
-    fn build(_alloc: Global, table: &Ends<'a>, rule: Rule, at: At) -> BuildResult<Self> {
+    fn build(_alloc: Global, table: Table<'_, 'a>, rule: Rule, at: At) -> BuildResult<Self> {
         Ok((Long, mark(table, rule, at)))
     }
 }
@@ -175,7 +176,7 @@ impl<'a> Build<'a> for Null {
 
     ghost tree = { mark_tree };
 
-    fn build(_alloc: Global, table: &Ends<'a>, rule: Rule, at: At) -> BuildResult<Self> {
+    fn build(_alloc: Global, table: Table<'_, 'a>, rule: Rule, at: At) -> BuildResult<Self> {
         Ok((Null, mark(table, rule, at)))
     }
 }
@@ -187,7 +188,7 @@ impl<'a> Build<'a> for Object {
 
     ghost tree = { mark_tree };
 
-    fn build(_alloc: Global, table: &Ends<'a>, rule: Rule, at: At) -> BuildResult<Self> {
+    fn build(_alloc: Global, table: Table<'_, 'a>, rule: Rule, at: At) -> BuildResult<Self> {
         Ok((Object, mark(table, rule, at)))
     }
 }
@@ -199,7 +200,7 @@ impl<'a> Build<'a> for Octet {
 
     ghost tree = { mark_tree };
 
-    fn build(_alloc: Global, table: &Ends<'a>, rule: Rule, at: At) -> BuildResult<Self> {
+    fn build(_alloc: Global, table: Table<'_, 'a>, rule: Rule, at: At) -> BuildResult<Self> {
         Ok((Octet, mark(table, rule, at)))
     }
 }
@@ -211,7 +212,7 @@ impl<'a> Build<'a> for Sequence {
 
     ghost tree = { mark_tree };
 
-    fn build(_alloc: Global, table: &Ends<'a>, rule: Rule, at: At) -> BuildResult<Self> {
+    fn build(_alloc: Global, table: Table<'_, 'a>, rule: Rule, at: At) -> BuildResult<Self> {
         Ok((Sequence, mark(table, rule, at)))
     }
 }
@@ -223,7 +224,7 @@ impl<'a> Build<'a> for Short {
 
     ghost tree = { mark_tree };
 
-    fn build(_alloc: Global, table: &Ends<'a>, rule: Rule, at: At) -> BuildResult<Self> {
+    fn build(_alloc: Global, table: Table<'_, 'a>, rule: Rule, at: At) -> BuildResult<Self> {
         Ok((Short, mark(table, rule, at)))
     }
 }
@@ -235,7 +236,7 @@ impl<'a> Build<'a> for True {
 
     ghost tree = { mark_tree };
 
-    fn build(_alloc: Global, table: &Ends<'a>, rule: Rule, at: At) -> BuildResult<Self> {
+    fn build(_alloc: Global, table: Table<'_, 'a>, rule: Rule, at: At) -> BuildResult<Self> {
         Ok((True, mark(table, rule, at)))
     }
 }
@@ -247,7 +248,7 @@ impl<'a> Build<'a> for Unsigned {
 
     ghost tree = { mark_tree };
 
-    fn build(_alloc: Global, table: &Ends<'a>, rule: Rule, at: At) -> BuildResult<Self> {
+    fn build(_alloc: Global, table: Table<'_, 'a>, rule: Rule, at: At) -> BuildResult<Self> {
         Ok((Unsigned, mark(table, rule, at)))
     }
 }
@@ -259,7 +260,7 @@ impl<'a> Build<'a> for Undefined {
 
     ghost tree = { mark_tree };
 
-    fn build(_alloc: Global, table: &Ends<'a>, rule: Rule, at: At) -> BuildResult<Self> {
+    fn build(_alloc: Global, table: Table<'_, 'a>, rule: Rule, at: At) -> BuildResult<Self> {
         Ok((Undefined, mark(table, rule, at)))
     }
 }
@@ -271,7 +272,7 @@ impl<'a> Build<'a> for Record {
 
     ghost tree = { mark_tree };
 
-    fn build(_alloc: Global, table: &Ends<'a>, rule: Rule, at: At) -> BuildResult<Self> {
+    fn build(_alloc: Global, table: Table<'_, 'a>, rule: Rule, at: At) -> BuildResult<Self> {
         Ok((Record, mark(table, rule, at)))
     }
 }

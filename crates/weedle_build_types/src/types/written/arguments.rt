@@ -21,19 +21,19 @@ use super::attributes::attributes;
 use super::kinds::{attributed_type, type_};
 use std::alloc::Global;
 use weedle_base::term::{CloseParen, Comma, Ellipsis, OpenParen, Optional};
-use weedle_build_base::{At, Build, BuildResult, choice, visit};
+use weedle_build_base::{At, Build, BuildResult, Table, choice, visit};
 use weedle_parts::common::{Identifier, Punctuated};
 use weedle_parts::literal::Default;
-use weedle_rules::{Ends, Rule};
+use weedle_rules::Rule;
 use weedle_types::argument::{
     Argument, ArgumentList, ParenthesizedArgumentList, SingleArgument, VariadicArgument,
 };
 
 /// Builds an argument, as `long x` or `long... xs`.
 #[cycle(group)]
-pub(crate) fn argument<'a>(alloc: Global, table: &Ends<'a>, at: At) -> BuildResult<Argument<'a>>
-    requires { Due table.now.text ARGUMENT at.place }
-    ensures { Answers table.now.text ARGUMENT argument_tree at.place at.visits result }
+pub(crate) fn argument<'a>(alloc: Global, table: Table<'_, 'a>, at: At) -> BuildResult<Argument<'a>>
+    requires { Due table.text.now ARGUMENT at.place }
+    ensures { Answers table.entry.text.now ARGUMENT argument_tree at.place at.visits result }
 {
     match choice(table, Rule::ARGUMENT, at.place) {
         0 => {
@@ -52,11 +52,11 @@ pub(crate) fn argument<'a>(alloc: Global, table: &Ends<'a>, at: At) -> BuildResu
 #[cycle(group)]
 pub(crate) fn single_argument<'a>(
     alloc: Global,
-    table: &Ends<'a>,
+    table: Table<'_, 'a>,
     at: At,
 ) -> BuildResult<SingleArgument<'a>>
-    requires { Due table.now.text SINGLE_ARGUMENT at.place }
-    ensures { Answers table.now.text SINGLE_ARGUMENT single_argument_tree at.place at.visits
+    requires { Due table.text.now SINGLE_ARGUMENT at.place }
+    ensures { Answers table.entry.text.now SINGLE_ARGUMENT single_argument_tree at.place at.visits
         result }
 {
     let (attributes, at) = attributes(alloc, table, at)?;
@@ -92,12 +92,12 @@ pub(crate) fn single_argument<'a>(
 #[cycle(group)]
 pub(crate) fn variadic_argument<'a>(
     alloc: Global,
-    table: &Ends<'a>,
+    table: Table<'_, 'a>,
     at: At,
 ) -> BuildResult<VariadicArgument<'a>>
-    requires { Due table.now.text VARIADIC_ARGUMENT at.place }
-    ensures { Answers table.now.text VARIADIC_ARGUMENT variadic_argument_tree at.place at.visits
-        result }
+    requires { Due table.text.now VARIADIC_ARGUMENT at.place }
+    ensures { Answers table.entry.text.now VARIADIC_ARGUMENT variadic_argument_tree at.place
+        at.visits result }
 {
     let (attributes, at) = attributes(alloc, table, at)?;
     let (type_, at) = type_(alloc, table, at)?;
@@ -118,12 +118,12 @@ pub(crate) fn variadic_argument<'a>(
 #[cycle(group)]
 pub(crate) fn arguments<'a>(
     alloc: Global,
-    table: &Ends<'a>,
+    table: Table<'_, 'a>,
     at: At,
 ) -> BuildResult<ParenthesizedArgumentList<'a>>
-    requires { Due table.now.text PARENTHESIZED_ARGUMENT_LIST at.place }
-    ensures { Answers table.now.text PARENTHESIZED_ARGUMENT_LIST arguments_tree at.place at.visits
-        result }
+    requires { Due table.text.now PARENTHESIZED_ARGUMENT_LIST at.place }
+    ensures { Answers table.entry.text.now PARENTHESIZED_ARGUMENT_LIST arguments_tree at.place
+        at.visits result }
 {
     let (open_paren, at) = OpenParen::build(alloc, table, Rule::OPEN_PAREN, at)?;
     let (body, at) = argument_list(alloc, table, at)?;
@@ -142,11 +142,12 @@ pub(crate) fn arguments<'a>(
 #[cycle(group)]
 pub(crate) fn argument_list<'a>(
     alloc: Global,
-    table: &Ends<'a>,
+    table: Table<'_, 'a>,
     at: At,
 ) -> BuildResult<ArgumentList<'a>>
-    requires { Due table.now.text ARGUMENT_LIST at.place }
-    ensures { Answers table.now.text ARGUMENT_LIST argument_list_tree at.place at.visits result }
+    requires { Due table.text.now ARGUMENT_LIST at.place }
+    ensures { Answers table.entry.text.now ARGUMENT_LIST argument_list_tree at.place at.visits
+        result }
 {
     let mut list = Vec::new(alloc);
     let separator = Comma;

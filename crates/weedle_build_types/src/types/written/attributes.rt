@@ -23,9 +23,9 @@ use super::arguments::arguments;
 use crate::held::Held;
 use std::alloc::Global;
 use weedle_base::term::{Assign, CloseBracket, Comma, OpenBracket};
-use weedle_build_base::{At, Build, BuildResult, alternative, choice, visit};
+use weedle_build_base::{At, Build, BuildResult, Table, alternative, choice, visit};
 use weedle_parts::common::{Bracketed, Identifier, Punctuated};
-use weedle_rules::{Ends, Rule};
+use weedle_rules::Rule;
 use weedle_types::attribute::{
     ExtendedAttribute, ExtendedAttributeArgList, ExtendedAttributeIdent,
     ExtendedAttributeIdentList, ExtendedAttributeList, ExtendedAttributeNamedArgList,
@@ -36,12 +36,12 @@ use weedle_types::attribute::{
 #[cycle(group)]
 pub(crate) fn attributes<'a>(
     alloc: Global,
-    table: &Ends<'a>,
+    table: Table<'_, 'a>,
     at: At,
 ) -> BuildResult<Option<ExtendedAttributeList<'a>>>
-    requires { Due table.now.text OPT_EXTENDED_ATTRIBUTE_LIST at.place }
-    ensures { Answers table.now.text OPT_EXTENDED_ATTRIBUTE_LIST attributes_tree at.place at.visits
-        result }
+    requires { Due table.text.now OPT_EXTENDED_ATTRIBUTE_LIST at.place }
+    ensures { Answers table.entry.text.now OPT_EXTENDED_ATTRIBUTE_LIST attributes_tree at.place
+        at.visits result }
 {
     match table.end(Rule::EXTENDED_ATTRIBUTE_LIST, at.place) {
         Some(_) => {
@@ -56,12 +56,12 @@ pub(crate) fn attributes<'a>(
 #[cycle(group)]
 pub(crate) fn extended_attribute_list<'a>(
     alloc: Global,
-    table: &Ends<'a>,
+    table: Table<'_, 'a>,
     at: At,
 ) -> BuildResult<ExtendedAttributeList<'a>>
-    requires { Due table.now.text EXTENDED_ATTRIBUTE_LIST at.place }
-    ensures { Answers table.now.text EXTENDED_ATTRIBUTE_LIST extended_attribute_list_tree at.place
-        at.visits result }
+    requires { Due table.text.now EXTENDED_ATTRIBUTE_LIST at.place }
+    ensures { Answers table.entry.text.now EXTENDED_ATTRIBUTE_LIST extended_attribute_list_tree
+        at.place at.visits result }
 {
     let (open_bracket, at) = OpenBracket::build(alloc, table, Rule::OPEN_BRACKET, at)?;
     let (body, at) = extended_attributes(alloc, table, at)?;
@@ -80,12 +80,12 @@ pub(crate) fn extended_attribute_list<'a>(
 #[cycle(group)]
 pub(crate) fn extended_attribute<'a>(
     alloc: Global,
-    table: &Ends<'a>,
+    table: Table<'_, 'a>,
     at: At,
 ) -> BuildResult<ExtendedAttribute<'a>>
-    requires { Due table.now.text EXTENDED_ATTRIBUTE at.place }
-    ensures { Answers table.now.text EXTENDED_ATTRIBUTE extended_attribute_tree at.place at.visits
-        result }
+    requires { Due table.text.now EXTENDED_ATTRIBUTE at.place }
+    ensures { Answers table.entry.text.now EXTENDED_ATTRIBUTE extended_attribute_tree at.place
+        at.visits result }
 {
     match choice(table, Rule::EXTENDED_ATTRIBUTE, at.place) {
         0 => {
@@ -134,12 +134,12 @@ pub(crate) fn extended_attribute<'a>(
 #[cycle(group)]
 pub(crate) fn extended_attribute_arg_list<'a>(
     alloc: Global,
-    table: &Ends<'a>,
+    table: Table<'_, 'a>,
     at: At,
 ) -> BuildResult<ExtendedAttributeArgList<'a>>
-    requires { Due table.now.text EXTENDED_ATTRIBUTE_ARG_LIST at.place }
-    ensures { Answers table.now.text EXTENDED_ATTRIBUTE_ARG_LIST extended_attribute_arg_list_tree
-        at.place at.visits result }
+    requires { Due table.text.now EXTENDED_ATTRIBUTE_ARG_LIST at.place }
+    ensures { Answers table.entry.text.now EXTENDED_ATTRIBUTE_ARG_LIST
+        extended_attribute_arg_list_tree at.place at.visits result }
 {
     let (identifier, at) = Identifier::build(alloc, table, Rule::IDENTIFIER, at)?;
     let (args, at) = arguments(alloc, table, at)?;
@@ -150,11 +150,11 @@ pub(crate) fn extended_attribute_arg_list<'a>(
 #[cycle(group)]
 pub(crate) fn extended_attribute_named_arg_list<'a>(
     alloc: Global,
-    table: &Ends<'a>,
+    table: Table<'_, 'a>,
     at: At,
 ) -> BuildResult<ExtendedAttributeNamedArgList<'a>>
-    requires { Due table.now.text EXTENDED_ATTRIBUTE_NAMED_ARG_LIST at.place }
-    ensures { Answers table.now.text EXTENDED_ATTRIBUTE_NAMED_ARG_LIST
+    requires { Due table.text.now EXTENDED_ATTRIBUTE_NAMED_ARG_LIST at.place }
+    ensures { Answers table.entry.text.now EXTENDED_ATTRIBUTE_NAMED_ARG_LIST
         extended_attribute_named_arg_list_tree at.place at.visits result }
 {
     let (lhs_identifier, at) = Identifier::build(alloc, table, Rule::IDENTIFIER, at)?;
@@ -176,12 +176,12 @@ pub(crate) fn extended_attribute_named_arg_list<'a>(
 #[cycle(group)]
 pub(crate) fn extended_attributes<'a>(
     alloc: Global,
-    table: &Ends<'a>,
+    table: Table<'_, 'a>,
     at: At,
 ) -> BuildResult<Punctuated<ExtendedAttribute<'a>, Comma>>
-    requires { Due table.now.text LIST_EXTENDED_ATTRIBUTE_COMMA at.place }
-    ensures { Answers table.now.text LIST_EXTENDED_ATTRIBUTE_COMMA extended_attributes_tree at.place
-        at.visits result }
+    requires { Due table.text.now LIST_EXTENDED_ATTRIBUTE_COMMA at.place }
+    ensures { Answers table.entry.text.now LIST_EXTENDED_ATTRIBUTE_COMMA extended_attributes_tree
+        at.place at.visits result }
 {
     let mut list = Vec::new(alloc);
     let separator = Comma;

@@ -31,10 +31,10 @@ use std::alloc::Global;
 use weedle_base::term::{
     Comma, FrozenArray, GreaterThan, LessThan, Promise, QMark, Record, Sequence,
 };
-use weedle_build_base::{At, Build, BuildResult, visit};
+use weedle_build_base::{At, Build, BuildResult, Table, visit};
 use weedle_parts::common::Generics;
 use weedle_parts::types::MayBeNull;
-use weedle_rules::{Ends, Rule};
+use weedle_rules::Rule;
 use weedle_types::types::{
     FrozenArrayType, PromiseType, RecordType, RecordTypes, ReturnType, SequenceType, Type,
 };
@@ -43,11 +43,12 @@ use weedle_types::types::{
 #[cycle(group)]
 pub(crate) fn sequence_type<'a>(
     alloc: Global,
-    table: &Ends<'a>,
+    table: Table<'_, 'a>,
     at: At,
 ) -> BuildResult<SequenceType<'a>>
-    requires { Due table.now.text SEQUENCE_TYPE at.place }
-    ensures { Answers table.now.text SEQUENCE_TYPE sequence_type_tree at.place at.visits result }
+    requires { Due table.text.now SEQUENCE_TYPE at.place }
+    ensures { Answers table.entry.text.now SEQUENCE_TYPE sequence_type_tree at.place at.visits
+        result }
 {
     let (sequence, at) = Sequence::build(alloc, table, Rule::SEQUENCE, at)?;
     let (generics, at) = generics_type(alloc, table, at)?;
@@ -58,12 +59,12 @@ pub(crate) fn sequence_type<'a>(
 #[cycle(group)]
 pub(crate) fn frozen_array_type<'a>(
     alloc: Global,
-    table: &Ends<'a>,
+    table: Table<'_, 'a>,
     at: At,
 ) -> BuildResult<FrozenArrayType<'a>>
-    requires { Due table.now.text FROZEN_ARRAY_TYPE at.place }
-    ensures { Answers table.now.text FROZEN_ARRAY_TYPE frozen_array_type_tree at.place at.visits
-        result }
+    requires { Due table.text.now FROZEN_ARRAY_TYPE at.place }
+    ensures { Answers table.entry.text.now FROZEN_ARRAY_TYPE frozen_array_type_tree at.place
+        at.visits result }
 {
     let (frozen_array, at) = FrozenArray::build(alloc, table, Rule::FROZEN_ARRAY, at)?;
     let (generics, at) = generics_type(alloc, table, at)?;
@@ -80,11 +81,12 @@ pub(crate) fn frozen_array_type<'a>(
 #[cycle(group)]
 pub(crate) fn promise_type<'a>(
     alloc: Global,
-    table: &Ends<'a>,
+    table: Table<'_, 'a>,
     at: At,
 ) -> BuildResult<PromiseType<'a>>
-    requires { Due table.now.text PROMISE_TYPE at.place }
-    ensures { Answers table.now.text PROMISE_TYPE promise_type_tree at.place at.visits result }
+    requires { Due table.text.now PROMISE_TYPE at.place }
+    ensures { Answers table.entry.text.now PROMISE_TYPE promise_type_tree at.place at.visits
+        result }
 {
     let (promise, at) = Promise::build(alloc, table, Rule::PROMISE, at)?;
     let (generics, at) = generics_return_type(alloc, table, at)?;
@@ -95,11 +97,11 @@ pub(crate) fn promise_type<'a>(
 #[cycle(group)]
 pub(crate) fn record_type<'a>(
     alloc: Global,
-    table: &Ends<'a>,
+    table: Table<'_, 'a>,
     at: At,
 ) -> BuildResult<RecordType<'a>>
-    requires { Due table.now.text RECORD_TYPE at.place }
-    ensures { Answers table.now.text RECORD_TYPE record_type_tree at.place at.visits result }
+    requires { Due table.text.now RECORD_TYPE at.place }
+    ensures { Answers table.entry.text.now RECORD_TYPE record_type_tree at.place at.visits result }
 {
     let (record_, at) = Record::build(alloc, table, Rule::RECORD, at)?;
     let (generics, at) = generics_record_types(alloc, table, at)?;
@@ -110,12 +112,12 @@ pub(crate) fn record_type<'a>(
 #[cycle(group)]
 pub(crate) fn nullable_sequence_type<'a>(
     alloc: Global,
-    table: &Ends<'a>,
+    table: Table<'_, 'a>,
     at: At,
 ) -> BuildResult<MayBeNull<SequenceType<'a>>>
-    requires { Due table.now.text MAY_BE_NULL_SEQUENCE_TYPE at.place }
-    ensures { Answers table.now.text MAY_BE_NULL_SEQUENCE_TYPE (may_be_null_tree sequence_type_tree)
-        at.place at.visits result }
+    requires { Due table.text.now MAY_BE_NULL_SEQUENCE_TYPE at.place }
+    ensures { Answers table.entry.text.now MAY_BE_NULL_SEQUENCE_TYPE
+        (may_be_null_tree sequence_type_tree) at.place at.visits result }
 {
     let (type_, at) = sequence_type(alloc, table, at)?;
     let (q_mark, at) = optional::<QMark>(alloc, table, Rule::Q_MARK, at)?;
@@ -126,11 +128,11 @@ pub(crate) fn nullable_sequence_type<'a>(
 #[cycle(group)]
 pub(crate) fn nullable_frozen_array_type<'a>(
     alloc: Global,
-    table: &Ends<'a>,
+    table: Table<'_, 'a>,
     at: At,
 ) -> BuildResult<MayBeNull<FrozenArrayType<'a>>>
-    requires { Due table.now.text MAY_BE_NULL_FROZEN_ARRAY_TYPE at.place }
-    ensures { Answers table.now.text MAY_BE_NULL_FROZEN_ARRAY_TYPE
+    requires { Due table.text.now MAY_BE_NULL_FROZEN_ARRAY_TYPE at.place }
+    ensures { Answers table.entry.text.now MAY_BE_NULL_FROZEN_ARRAY_TYPE
         (may_be_null_tree frozen_array_type_tree) at.place at.visits result }
 {
     let (type_, at) = frozen_array_type(alloc, table, at)?;
@@ -142,12 +144,12 @@ pub(crate) fn nullable_frozen_array_type<'a>(
 #[cycle(group)]
 pub(crate) fn nullable_record_type<'a>(
     alloc: Global,
-    table: &Ends<'a>,
+    table: Table<'_, 'a>,
     at: At,
 ) -> BuildResult<MayBeNull<RecordType<'a>>>
-    requires { Due table.now.text MAY_BE_NULL_RECORD_TYPE at.place }
-    ensures { Answers table.now.text MAY_BE_NULL_RECORD_TYPE (may_be_null_tree record_type_tree)
-        at.place at.visits result }
+    requires { Due table.text.now MAY_BE_NULL_RECORD_TYPE at.place }
+    ensures { Answers table.entry.text.now MAY_BE_NULL_RECORD_TYPE
+        (may_be_null_tree record_type_tree) at.place at.visits result }
 {
     let (type_, at) = record_type(alloc, table, at)?;
     let (q_mark, at) = optional::<QMark>(alloc, table, Rule::Q_MARK, at)?;
@@ -158,11 +160,11 @@ pub(crate) fn nullable_record_type<'a>(
 #[cycle(group)]
 pub(crate) fn generics_type<'a>(
     alloc: Global,
-    table: &Ends<'a>,
+    table: Table<'_, 'a>,
     at: At,
 ) -> BuildResult<Generics<Box<Type<'a>>>>
-    requires { Due table.now.text GENERICS_TYPE at.place }
-    ensures { Answers table.now.text GENERICS_TYPE (generics_tree boxed_type_tree) at.place
+    requires { Due table.text.now GENERICS_TYPE at.place }
+    ensures { Answers table.entry.text.now GENERICS_TYPE (generics_tree boxed_type_tree) at.place
         at.visits result }
 {
     let (open_angle, at) = LessThan::build(alloc, table, Rule::LESS_THAN, at)?;
@@ -183,12 +185,12 @@ pub(crate) fn generics_type<'a>(
 #[cycle(group)]
 pub(crate) fn generics_return_type<'a>(
     alloc: Global,
-    table: &Ends<'a>,
+    table: Table<'_, 'a>,
     at: At,
 ) -> BuildResult<Generics<Box<ReturnType<'a>>>>
-    requires { Due table.now.text GENERICS_RETURN_TYPE at.place }
-    ensures { Answers table.now.text GENERICS_RETURN_TYPE (generics_tree boxed_return_type_tree)
-        at.place at.visits result }
+    requires { Due table.text.now GENERICS_RETURN_TYPE at.place }
+    ensures { Answers table.entry.text.now GENERICS_RETURN_TYPE
+        (generics_tree boxed_return_type_tree) at.place at.visits result }
 {
     let (open_angle, at) = LessThan::build(alloc, table, Rule::LESS_THAN, at)?;
     let (body, at) = return_type(alloc, table, at)?;
@@ -208,11 +210,11 @@ pub(crate) fn generics_return_type<'a>(
 #[cycle(group)]
 pub(crate) fn generics_record_types<'a>(
     alloc: Global,
-    table: &Ends<'a>,
+    table: Table<'_, 'a>,
     at: At,
 ) -> BuildResult<Generics<RecordTypes<'a>>>
-    requires { Due table.now.text GENERICS_RECORD_TYPES at.place }
-    ensures { Answers table.now.text GENERICS_RECORD_TYPES (generics_tree record_types_tree)
+    requires { Due table.text.now GENERICS_RECORD_TYPES at.place }
+    ensures { Answers table.entry.text.now GENERICS_RECORD_TYPES (generics_tree record_types_tree)
         at.place at.visits result }
 {
     let (open_angle, at) = LessThan::build(alloc, table, Rule::LESS_THAN, at)?;
@@ -232,11 +234,12 @@ pub(crate) fn generics_record_types<'a>(
 #[cycle(group)]
 pub(crate) fn record_types<'a>(
     alloc: Global,
-    table: &Ends<'a>,
+    table: Table<'_, 'a>,
     at: At,
 ) -> BuildResult<RecordTypes<'a>>
-    requires { Due table.now.text RECORD_TYPES at.place }
-    ensures { Answers table.now.text RECORD_TYPES record_types_tree at.place at.visits result }
+    requires { Due table.text.now RECORD_TYPES at.place }
+    ensures { Answers table.entry.text.now RECORD_TYPES record_types_tree at.place at.visits
+        result }
 {
     let (key, at) = record_key_type(alloc, table, at)?;
     let key = Box::new(alloc, key)?;

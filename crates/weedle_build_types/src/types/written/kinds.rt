@@ -28,17 +28,17 @@ use super::plain_types::plain_type;
 use super::unions::nullable_union_type;
 use std::alloc::Global;
 use weedle_base::term::{Any, ByteString, DOMString, USVString, Undefined};
-use weedle_build_base::{At, BuildResult, alternative, choice, visit};
-use weedle_rules::{Ends, Rule};
+use weedle_build_base::{At, BuildResult, Table, alternative, choice, visit};
+use weedle_rules::Rule;
 use weedle_types::types::{
     AttributedNonAnyType, AttributedType, NonAnyType, RecordKeyType, ReturnType, SingleType, Type,
 };
 
 /// Builds a type, as `long` or `(long or DOMString)?`.
 #[cycle(group)]
-pub(crate) fn type_<'a>(alloc: Global, table: &Ends<'a>, at: At) -> BuildResult<Type<'a>>
-    requires { Due table.now.text TYPE at.place }
-    ensures { Answers table.now.text TYPE type_tree at.place at.visits result }
+pub(crate) fn type_<'a>(alloc: Global, table: Table<'_, 'a>, at: At) -> BuildResult<Type<'a>>
+    requires { Due table.text.now TYPE at.place }
+    ensures { Answers table.entry.text.now TYPE type_tree at.place at.visits result }
 {
     match choice(table, Rule::TYPE, at.place) {
         0 => {
@@ -57,11 +57,11 @@ pub(crate) fn type_<'a>(alloc: Global, table: &Ends<'a>, at: At) -> BuildResult<
 #[cycle(group)]
 pub(crate) fn single_type<'a>(
     alloc: Global,
-    table: &Ends<'a>,
+    table: Table<'_, 'a>,
     at: At,
 ) -> BuildResult<SingleType<'a>>
-    requires { Due table.now.text SINGLE_TYPE at.place }
-    ensures { Answers table.now.text SINGLE_TYPE single_type_tree at.place at.visits result }
+    requires { Due table.text.now SINGLE_TYPE at.place }
+    ensures { Answers table.entry.text.now SINGLE_TYPE single_type_tree at.place at.visits result }
 {
     match choice(table, Rule::SINGLE_TYPE, at.place) {
         0 => {
@@ -80,11 +80,12 @@ pub(crate) fn single_type<'a>(
 #[cycle(group)]
 pub(crate) fn non_any_type<'a>(
     alloc: Global,
-    table: &Ends<'a>,
+    table: Table<'_, 'a>,
     at: At,
 ) -> BuildResult<NonAnyType<'a>>
-    requires { Due table.now.text NON_ANY_TYPE at.place }
-    ensures { Answers table.now.text NON_ANY_TYPE non_any_type_tree at.place at.visits result }
+    requires { Due table.text.now NON_ANY_TYPE at.place }
+    ensures { Answers table.entry.text.now NON_ANY_TYPE non_any_type_tree at.place at.visits
+        result }
 {
     match choice(table, Rule::NON_ANY_TYPE, at.place) {
         0 => {
@@ -111,11 +112,11 @@ pub(crate) fn non_any_type<'a>(
 #[cycle(group)]
 pub(crate) fn record_key_type<'a>(
     alloc: Global,
-    table: &Ends<'a>,
+    table: Table<'_, 'a>,
     at: At,
 ) -> BuildResult<RecordKeyType<'a>>
-    requires { Due table.now.text RECORD_KEY_TYPE at.place }
-    ensures { Answers table.now.text RECORD_KEY_TYPE record_key_type_tree at.place at.visits
+    requires { Due table.text.now RECORD_KEY_TYPE at.place }
+    ensures { Answers table.entry.text.now RECORD_KEY_TYPE record_key_type_tree at.place at.visits
         result }
 {
     match choice(table, Rule::RECORD_KEY_TYPE, at.place) {
@@ -161,11 +162,11 @@ pub(crate) fn record_key_type<'a>(
 #[cycle(group)]
 pub(crate) fn return_type<'a>(
     alloc: Global,
-    table: &Ends<'a>,
+    table: Table<'_, 'a>,
     at: At,
 ) -> BuildResult<ReturnType<'a>>
-    requires { Due table.now.text RETURN_TYPE at.place }
-    ensures { Answers table.now.text RETURN_TYPE return_type_tree at.place at.visits result }
+    requires { Due table.text.now RETURN_TYPE at.place }
+    ensures { Answers table.entry.text.now RETURN_TYPE return_type_tree at.place at.visits result }
 {
     match choice(table, Rule::RETURN_TYPE, at.place) {
         0 => {
@@ -184,11 +185,11 @@ pub(crate) fn return_type<'a>(
 #[cycle(group)]
 pub(crate) fn attributed_type<'a>(
     alloc: Global,
-    table: &Ends<'a>,
+    table: Table<'_, 'a>,
     at: At,
 ) -> BuildResult<AttributedType<'a>>
-    requires { Due table.now.text ATTRIBUTED_TYPE at.place }
-    ensures { Answers table.now.text ATTRIBUTED_TYPE attributed_type_tree at.place at.visits
+    requires { Due table.text.now ATTRIBUTED_TYPE at.place }
+    ensures { Answers table.entry.text.now ATTRIBUTED_TYPE attributed_type_tree at.place at.visits
         result }
 {
     let (attributes, at) = attributes(alloc, table, at)?;
@@ -204,12 +205,12 @@ pub(crate) fn attributed_type<'a>(
 #[cycle(group)]
 pub(crate) fn attributed_non_any_type<'a>(
     alloc: Global,
-    table: &Ends<'a>,
+    table: Table<'_, 'a>,
     at: At,
 ) -> BuildResult<AttributedNonAnyType<'a>>
-    requires { Due table.now.text ATTRIBUTED_NON_ANY_TYPE at.place }
-    ensures { Answers table.now.text ATTRIBUTED_NON_ANY_TYPE attributed_non_any_type_tree at.place
-        at.visits result }
+    requires { Due table.text.now ATTRIBUTED_NON_ANY_TYPE at.place }
+    ensures { Answers table.entry.text.now ATTRIBUTED_NON_ANY_TYPE attributed_non_any_type_tree
+        at.place at.visits result }
 {
     let (attributes, at) = attributes(alloc, table, at)?;
     let (type_, at) = non_any_type(alloc, table, at)?;

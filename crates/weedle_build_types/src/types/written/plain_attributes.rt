@@ -19,11 +19,11 @@ use crate::held::Held;
 use std::alloc::Global;
 use weedle_base::term::{Assign, Comma};
 use weedle_build_base::{
-    At, Build, BuildResult, Last, alternative, choice, sequence, three_fields,
+    At, Build, BuildResult, Last, Table, alternative, choice, sequence, three_fields,
 };
 use weedle_parts::common::{Identifier, Parenthesized, Punctuated};
 use weedle_parts::literal::StringLit;
-use weedle_rules::{Ends, Rule};
+use weedle_rules::Rule;
 use weedle_types::attribute::{
     ExtendedAttributeIdent, ExtendedAttributeIdentList, ExtendedAttributeNoArgs, IdentifierOrString,
 };
@@ -37,7 +37,7 @@ impl<'a> Build<'a> for Held<ExtendedAttributeIdentList<'a>> {
 
     fn build(
         alloc: Global,
-        table: &Ends<'a>,
+        table: Table<'_, 'a>,
         _rule: Rule,
         at: At,
     ) -> BuildResult<ExtendedAttributeIdentList<'a>> {
@@ -66,7 +66,7 @@ impl<'a> Build<'a> for Held<ExtendedAttributeIdent<'a>> {
 
     fn build(
         alloc: Global,
-        table: &Ends<'a>,
+        table: Table<'_, 'a>,
         _rule: Rule,
         at: At,
     ) -> BuildResult<ExtendedAttributeIdent<'a>> {
@@ -95,7 +95,7 @@ impl<'a> Build<'a> for Held<ExtendedAttributeNoArgs<'a>> {
 
     fn build(
         alloc: Global,
-        table: &Ends<'a>,
+        table: Table<'_, 'a>,
         _rule: Rule,
         at: At,
     ) -> BuildResult<ExtendedAttributeNoArgs<'a>> {
@@ -118,7 +118,7 @@ impl<'a> Build<'a> for Held<IdentifierOrString<'a>> {
 
     fn build(
         alloc: Global,
-        table: &Ends<'a>,
+        table: Table<'_, 'a>,
         _rule: Rule,
         at: At,
     ) -> BuildResult<IdentifierOrString<'a>> {

@@ -12,23 +12,24 @@ use weedle_base::term::{
     Error, Float32Array, Float64Array, Int8Array, Int16Array, Int32Array, Object, Octet, Symbol,
     USVString, Uint8Array, Uint8ClampedArray, Uint16Array, Uint32Array,
 };
-use weedle_build_base::{At, BuildResult, alternative};
+use weedle_build_base::{At, BuildResult, Table, alternative};
 use weedle_parts::common::Identifier;
 use weedle_parts::types::{FloatingPointType, IntegerType, MayBeNull};
-use weedle_rules::{Ends, Rule};
+use weedle_rules::Rule;
 use weedle_types::types::NonAnyType;
 
 /// Builds a type that holds no other, as `long?`: the variant of this number, which is the first
 /// that fits.
 pub(crate) fn plain_type<'a>(
     alloc: Global,
-    table: &Ends<'a>,
+    table: Table<'_, 'a>,
     number: usize,
     at: At,
 ) -> BuildResult<NonAnyType<'a>>
-    requires chosen { IsChosen table.now.text NON_ANY_TYPE at.place number }
+    requires chosen { IsChosen table.text.now NON_ANY_TYPE at.place number }
     requires plain { (number ≢ 0) × (number ≢ 9) × (number ≢ 26) × (number ≢ 27) }
-    ensures { Answers table.now.text NON_ANY_TYPE non_any_type_tree at.place at.visits result }
+    ensures { Answers table.entry.text.now NON_ANY_TYPE non_any_type_tree at.place at.visits
+        result }
 {
     match number {
         1..=4 => numbers(alloc, table, number, at),
@@ -54,13 +55,14 @@ pub(crate) fn plain_type<'a>(
 /// Builds a type of numbers, `boolean` or `byte`, as `unsigned long?`.
 fn numbers<'a>(
     alloc: Global,
-    table: &Ends<'a>,
+    table: Table<'_, 'a>,
     number: usize,
     at: At,
 ) -> BuildResult<NonAnyType<'a>>
-    requires chosen { IsChosen table.now.text NON_ANY_TYPE at.place number }
+    requires chosen { IsChosen table.text.now NON_ANY_TYPE at.place number }
     requires range { (1 ≤ number) × (number ≤ 4) }
-    ensures { Answers table.now.text NON_ANY_TYPE non_any_type_tree at.place at.visits result }
+    ensures { Answers table.entry.text.now NON_ANY_TYPE non_any_type_tree at.place at.visits
+        result }
 {
     let rule = Rule::NON_ANY_TYPE;
     match number {
@@ -89,13 +91,14 @@ fn numbers<'a>(
 /// Builds `octet`, `ByteString`, `DOMString` or `USVString`.
 fn strings<'a>(
     alloc: Global,
-    table: &Ends<'a>,
+    table: Table<'_, 'a>,
     number: usize,
     at: At,
 ) -> BuildResult<NonAnyType<'a>>
-    requires chosen { IsChosen table.now.text NON_ANY_TYPE at.place number }
+    requires chosen { IsChosen table.text.now NON_ANY_TYPE at.place number }
     requires range { (5 ≤ number) × (number ≤ 8) }
-    ensures { Answers table.now.text NON_ANY_TYPE non_any_type_tree at.place at.visits result }
+    ensures { Answers table.entry.text.now NON_ANY_TYPE non_any_type_tree at.place at.visits
+        result }
 {
     let rule = Rule::NON_ANY_TYPE;
     match number {
@@ -122,13 +125,14 @@ fn strings<'a>(
 /// Builds `object`, `symbol`, `Error` or `ArrayBuffer`.
 fn objects<'a>(
     alloc: Global,
-    table: &Ends<'a>,
+    table: Table<'_, 'a>,
     number: usize,
     at: At,
 ) -> BuildResult<NonAnyType<'a>>
-    requires chosen { IsChosen table.now.text NON_ANY_TYPE at.place number }
+    requires chosen { IsChosen table.text.now NON_ANY_TYPE at.place number }
     requires range { (10 ≤ number) × (number ≤ 13) }
-    ensures { Answers table.now.text NON_ANY_TYPE non_any_type_tree at.place at.visits result }
+    ensures { Answers table.entry.text.now NON_ANY_TYPE non_any_type_tree at.place at.visits
+        result }
 {
     let rule = Rule::NON_ANY_TYPE;
     match number {
@@ -155,13 +159,14 @@ fn objects<'a>(
 /// Builds `DataView` or an array of signed numbers, as `Int8Array`.
 fn signed_arrays<'a>(
     alloc: Global,
-    table: &Ends<'a>,
+    table: Table<'_, 'a>,
     number: usize,
     at: At,
 ) -> BuildResult<NonAnyType<'a>>
-    requires chosen { IsChosen table.now.text NON_ANY_TYPE at.place number }
+    requires chosen { IsChosen table.text.now NON_ANY_TYPE at.place number }
     requires range { (14 ≤ number) × (number ≤ 17) }
-    ensures { Answers table.now.text NON_ANY_TYPE non_any_type_tree at.place at.visits result }
+    ensures { Answers table.entry.text.now NON_ANY_TYPE non_any_type_tree at.place at.visits
+        result }
 {
     let rule = Rule::NON_ANY_TYPE;
     match number {
@@ -188,13 +193,14 @@ fn signed_arrays<'a>(
 /// Builds an array of unsigned numbers, as `Uint8Array`.
 fn unsigned_arrays<'a>(
     alloc: Global,
-    table: &Ends<'a>,
+    table: Table<'_, 'a>,
     number: usize,
     at: At,
 ) -> BuildResult<NonAnyType<'a>>
-    requires chosen { IsChosen table.now.text NON_ANY_TYPE at.place number }
+    requires chosen { IsChosen table.text.now NON_ANY_TYPE at.place number }
     requires range { (18 ≤ number) × (number ≤ 21) }
-    ensures { Answers table.now.text NON_ANY_TYPE non_any_type_tree at.place at.visits result }
+    ensures { Answers table.entry.text.now NON_ANY_TYPE non_any_type_tree at.place at.visits
+        result }
 {
     let rule = Rule::NON_ANY_TYPE;
     match number {
@@ -223,13 +229,14 @@ fn unsigned_arrays<'a>(
 /// Builds an array of floating point numbers, `ArrayBufferView` or `BufferSource`.
 fn float_arrays<'a>(
     alloc: Global,
-    table: &Ends<'a>,
+    table: Table<'_, 'a>,
     number: usize,
     at: At,
 ) -> BuildResult<NonAnyType<'a>>
-    requires chosen { IsChosen table.now.text NON_ANY_TYPE at.place number }
+    requires chosen { IsChosen table.text.now NON_ANY_TYPE at.place number }
     requires range { (22 ≤ number) × (number ≤ 25) }
-    ensures { Answers table.now.text NON_ANY_TYPE non_any_type_tree at.place at.visits result }
+    ensures { Answers table.entry.text.now NON_ANY_TYPE non_any_type_tree at.place at.visits
+        result }
 {
     let rule = Rule::NON_ANY_TYPE;
     match number {

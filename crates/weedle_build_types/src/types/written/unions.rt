@@ -21,17 +21,21 @@ use super::super::steps::optional;
 use super::kinds::attributed_non_any_type;
 use std::alloc::{AllocError, Global};
 use weedle_base::term::{CloseParen, OpenParen, Or, QMark};
-use weedle_build_base::{At, Build, BuildResult, choice, visit};
+use weedle_build_base::{At, Build, BuildResult, Table, choice, visit};
 use weedle_parts::common::{Parenthesized, Punctuated};
 use weedle_parts::types::MayBeNull;
-use weedle_rules::{Ends, Rule};
+use weedle_rules::Rule;
 use weedle_types::types::{AttributedNonAnyType, UnionMemberType, UnionType};
 
 /// Builds a union, as `(long or DOMString)`.
 #[cycle(group)]
-pub(crate) fn union_type<'a>(alloc: Global, table: &Ends<'a>, at: At) -> BuildResult<UnionType<'a>>
-    requires { Due table.now.text UNION_TYPE at.place }
-    ensures { Answers table.now.text UNION_TYPE union_type_tree at.place at.visits result }
+pub(crate) fn union_type<'a>(
+    alloc: Global,
+    table: Table<'_, 'a>,
+    at: At,
+) -> BuildResult<UnionType<'a>>
+    requires { Due table.text.now UNION_TYPE at.place }
+    ensures { Answers table.entry.text.now UNION_TYPE union_type_tree at.place at.visits result }
 {
     let (open_paren, at) = OpenParen::build(alloc, table, Rule::OPEN_PAREN, at)?;
     let (body, at) = union_member_types(alloc, table, at)?;
@@ -50,11 +54,11 @@ pub(crate) fn union_type<'a>(alloc: Global, table: &Ends<'a>, at: At) -> BuildRe
 #[cycle(group)]
 pub(crate) fn nullable_union_type<'a>(
     alloc: Global,
-    table: &Ends<'a>,
+    table: Table<'_, 'a>,
     at: At,
 ) -> BuildResult<MayBeNull<UnionType<'a>>>
-    requires { Due table.now.text MAY_BE_NULL_UNION_TYPE at.place }
-    ensures { Answers table.now.text MAY_BE_NULL_UNION_TYPE (may_be_null_tree union_type_tree)
+    requires { Due table.text.now MAY_BE_NULL_UNION_TYPE at.place }
+    ensures { Answers table.entry.text.now MAY_BE_NULL_UNION_TYPE (may_be_null_tree union_type_tree)
         at.place at.visits result }
 {
     let (type_, at) = union_type(alloc, table, at)?;
@@ -98,13 +102,13 @@ fn keep_union<'a>(
 #[cycle(group)]
 pub(crate) fn add_union_member_type<'a>(
     alloc: Global,
-    table: &Ends<'a>,
+    table: Table<'_, 'a>,
     list: &mut Vec<UnionMemberType<'a>>,
     at: At,
 ) -> Result<At, AllocError>
-    requires { Due table.now.text UNION_MEMBER_TYPE at.place }
+    requires { Due table.text.now UNION_MEMBER_TYPE at.place }
     ensures { IfOk result
-        (λ here. Adds table.now.text UNION_MEMBER_TYPE union_member_type_tree list.old.items
+        (λ here. Adds table.entry.text.now UNION_MEMBER_TYPE union_member_type_tree list.old.items
         list.new.items at.place at.visits here.place here.visits) }
 {
     match choice(table, Rule::UNION_MEMBER_TYPE, at.place) {
@@ -118,12 +122,12 @@ pub(crate) fn add_union_member_type<'a>(
 #[cycle(group)]
 pub(crate) fn union_member_types<'a>(
     alloc: Global,
-    table: &Ends<'a>,
+    table: Table<'_, 'a>,
     at: At,
 ) -> BuildResult<Punctuated<UnionMemberType<'a>, Or>>
-    requires { Due table.now.text LIST_UNION_MEMBER_TYPE_OR at.place }
-    ensures { Answers table.now.text LIST_UNION_MEMBER_TYPE_OR union_member_types_tree at.place
-        at.visits result }
+    requires { Due table.text.now LIST_UNION_MEMBER_TYPE_OR at.place }
+    ensures { Answers table.entry.text.now LIST_UNION_MEMBER_TYPE_OR union_member_types_tree
+        at.place at.visits result }
 {
     let mut list = Vec::new(alloc);
     let separator = Or;

@@ -1,11 +1,15 @@
 use Rattle.std.proofs.Common.{refl, sym}
 use Rattle.weedle_build_base.proofs.Options.{option_some, option_none, option_fits}
 use Rattle.weedle_build_base.proofs.Finding.{absent, present}
+use Rattle.weedle_build_base.proofs.WantedFacts.{option_tried}
 use Rattle.weedle_build_base.proofs.generic.OptionBuild.build.Goals as goal
+
+pub end-requires : goal.end-requires
+end-requires g c = option_tried c.requires.due c.in-Opt.ensures
 
 pub build-requires : goal.build-requires
 build-requires g c κs =
-    ((refl, tt), ((option_fits g.T.Build.fits c.args.rule c.requires.fit c.in-Opt.ensures).0, present c.requires.due.utf8 c.requires.due.boundary c.in-Some.ensures.right))
+    ((refl, tt), ((option_fits g.T.Build.fits c.args.rule c.requires.fit c.in-Opt.ensures).0, present (option_tried c.requires.due c.in-Opt.ensures) c.in-Some.ensures.right))
 
 pub returns-in_ok-value-in-Some : goal.returns-in_ok-value-in-Some
 returns-in_ok-value-in-Some g c =

@@ -4,7 +4,7 @@ use Rattle.weedle_build_base.proofs.Options.{option_none, option_some}
 use Rattle.weedle_build_types.proofs.types.steps.optional.Goals as goal
 
 pub build-requires : goal.build-requires
-build-requires g c κs = ((refl, tt), (c.requires.fit, present c.requires.place.utf8 c.requires.place.boundary c.in-Some.ensures.right))
+build-requires g c κs = ((refl, tt), (c.requires.fit, present c.requires.tried c.in-Some.ensures.right))
 
 pub returns-in_ok-value-in-Some : goal.returns-in_ok-value-in-Some
 returns-in_ok-value-in-Some g c = λ r o. option_some o.row o.shape c.in_ok-value-in-Some.ensures c.visit.ensures

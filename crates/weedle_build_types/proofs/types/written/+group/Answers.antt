@@ -3,15 +3,16 @@ use Rattle.std.proofs.Common.{refl, arith, ap}
 use Rattle.weedle_grammar.specs.written.Table.SimpleTypes.{OPT_Q_MARK}
 use Rattle.weedle_grammar.specs.written.Table.Types.{OPT_DEFAULT, OPT_OPTIONAL}
 use Rattle.weedle_types.specs.Trees.{argument_tree, extended_attribute_tree, record_key_type_tree, return_type_tree, type_tree, union_member_type_tree}
-use Rattle.weedle_build_types.proofs.Calls.{behind, builds_as, kept, listing_behind, not_before, option_of, place_of, rest_of_if}
+use Rattle.weedle_build_types.proofs.Calls.{behind, builds_as, kept, listing_behind, not_before, option_of, item_tried, rest_of_if}
 use Rattle.weedle_build_types.proofs.Conditions.{if_due, if_not_there, if_there}
 use Rattle.weedle_types.proofs.TreeLaws.{arg_list_of, argument_single_of, argument_variadic_of, named_arg_list_of, promise_of, record_of, single_type_of, union_of}
 use Rattle.weedle_build_base.proofs.Choices.{chosen}
 use Rattle.weedle_build_base.proofs.Finding.{absent, present}
 use Rattle.weedle_build_base.proofs.Repeats.{map_push}
 use Rattle.weedle_build_base.proofs.Options.{option_none, option_some}
-use Rattle.weedle_build_base.proofs.Separated.{behind_boundary, behind_due, due_list, list_built, list_empty, listing_back, listing_end, listing_next, listing_start}
+use Rattle.weedle_build_base.proofs.Separated.{behind_due, behind_tried, due_list, list_built, list_empty, listing_back, listing_end, listing_next, listing_start, separator_tried}
 use Rattle.weedle_build_base.proofs.Sequences.{front, next, node, rest_of_row, run_more, run_one}
+use Rattle.weedle_build_base.proofs.WantedFacts.{list_tried, option_tried}
 use Rattle.weedle_build_types.proofs.types.written.+group.Goals as goal
 
 pub kinds::attributed_type-attributes-requires : goal.kinds::attributed_type-attributes-requires
@@ -72,7 +73,7 @@ pub generic_types::nullable_sequence_type-sequence_type-requires : goal.generic_
 generic_types::nullable_sequence_type-sequence_type-requires t c = let d = front (rest_of_row c.requires refl) in (omega (arith, d.boundary.0), d)
 
 pub generic_types::nullable_sequence_type-optional-requires : goal.generic_types::nullable_sequence_type-optional-requires
-generic_types::nullable_sequence_type-optional-requires t c = λ k. ((refl, tt), (refl, place_of (front (next c.in_ok-type_.ensures (rest_of_row c.requires refl)))))
+generic_types::nullable_sequence_type-optional-requires t c = λ k. ((refl, tt), (refl, item_tried refl (front (next c.in_ok-type_.ensures (rest_of_row c.requires refl)))))
 
 pub generic_types::nullable_sequence_type-returns : goal.generic_types::nullable_sequence_type-returns
 generic_types::nullable_sequence_type-returns t c = node refl refl refl (run_more c.in_ok-type_.ensures (run_one (c.in_ok-q_mark.ensures OPT_Q_MARK (option_of refl refl)))) c.visit.ensures
@@ -81,7 +82,7 @@ pub generic_types::nullable_frozen_array_type-frozen_array_type-requires : goal.
 generic_types::nullable_frozen_array_type-frozen_array_type-requires t c = let d = front (rest_of_row c.requires refl) in (omega (arith, d.boundary.0), d)
 
 pub generic_types::nullable_frozen_array_type-optional-requires : goal.generic_types::nullable_frozen_array_type-optional-requires
-generic_types::nullable_frozen_array_type-optional-requires t c = λ k. ((refl, tt), (refl, place_of (front (next c.in_ok-type_.ensures (rest_of_row c.requires refl)))))
+generic_types::nullable_frozen_array_type-optional-requires t c = λ k. ((refl, tt), (refl, item_tried refl (front (next c.in_ok-type_.ensures (rest_of_row c.requires refl)))))
 
 pub generic_types::nullable_frozen_array_type-returns : goal.generic_types::nullable_frozen_array_type-returns
 generic_types::nullable_frozen_array_type-returns t c = node refl refl refl (run_more c.in_ok-type_.ensures (run_one (c.in_ok-q_mark.ensures OPT_Q_MARK (option_of refl refl)))) c.visit.ensures
@@ -90,7 +91,7 @@ pub generic_types::nullable_record_type-record_type-requires : goal.generic_type
 generic_types::nullable_record_type-record_type-requires t c = let d = front (rest_of_row c.requires refl) in (omega (arith, d.boundary.0), d)
 
 pub generic_types::nullable_record_type-optional-requires : goal.generic_types::nullable_record_type-optional-requires
-generic_types::nullable_record_type-optional-requires t c = λ k. ((refl, tt), (refl, place_of (front (next c.in_ok-type_.ensures (rest_of_row c.requires refl)))))
+generic_types::nullable_record_type-optional-requires t c = λ k. ((refl, tt), (refl, item_tried refl (front (next c.in_ok-type_.ensures (rest_of_row c.requires refl)))))
 
 pub generic_types::nullable_record_type-returns : goal.generic_types::nullable_record_type-returns
 generic_types::nullable_record_type-returns t c = node refl refl refl (run_more c.in_ok-type_.ensures (run_one (c.in_ok-q_mark.ensures OPT_Q_MARK (option_of refl refl)))) c.visit.ensures
@@ -159,7 +160,7 @@ pub unions::nullable_union_type-union_type-requires : goal.unions::nullable_unio
 unions::nullable_union_type-union_type-requires t c = let d = front (rest_of_row c.requires refl) in (omega (arith, d.boundary.0), d)
 
 pub unions::nullable_union_type-optional-requires : goal.unions::nullable_union_type-optional-requires
-unions::nullable_union_type-optional-requires t c = λ k. ((refl, tt), (refl, place_of (front (next c.in_ok-type_.ensures (rest_of_row c.requires refl)))))
+unions::nullable_union_type-optional-requires t c = λ k. ((refl, tt), (refl, item_tried refl (front (next c.in_ok-type_.ensures (rest_of_row c.requires refl)))))
 
 pub unions::nullable_union_type-returns : goal.unions::nullable_union_type-returns
 unions::nullable_union_type-returns t c = node refl refl refl (run_more c.in_ok-type_.ensures (run_one (c.in_ok-q_mark.ensures OPT_Q_MARK (option_of refl refl)))) c.visit.ensures
@@ -302,20 +303,23 @@ arguments::argument-variadic_argument-requires t c = let h = rw c.in-1.is at c.c
 pub arguments::argument-returns-in_ok-member-in-1 : goal.arguments::argument-returns-in_ok-member-in-1
 arguments::argument-returns-in_ok-member-in-1 t c = builds_as (argument_variadic_of c.in_ok-member-in-1.member) (chosen (rw c.in-1.is at c.choice.ensures) c.in_ok-member-in-1.ensures c.visit-in-1.ensures)
 
+pub unions::union_member_types-end-requires : goal.unions::union_member_types-end-requires
+unions::union_member_types-end-requires t c = list_tried c.requires refl
+
 pub unions::union_member_types-returns-in_default : goal.unions::union_member_types-returns-in_default
 unions::union_member_types-returns-in_default t c = rw c.new-list.ensures.items (list_empty refl refl (absent c.in_default.ensures.right) c.visit.ensures)
 
 pub unions::union_member_types-add_union_member_type-requires : goal.unions::union_member_types-add_union_member_type-requires
-unions::union_member_types-add_union_member_type-requires t c = (omega arith, present c.requires.utf8 c.requires.boundary c.in-Some.ensures.right)
+unions::union_member_types-add_union_member_type-requires t c = (omega arith, present (list_tried c.requires refl) c.in-Some.ensures.right)
 
 pub unions::union_member_types-loop-behind-init : goal.unions::union_member_types-loop-behind-init
-unions::union_member_types-loop-behind-init t c = rw (c.in_ok-here.ensures.items, c.new-list.ensures.items) (listing_start (due_list c.requires refl (present c.requires.utf8 c.requires.boundary c.in-Some.ensures.right)) refl c.in_ok-here.ensures.built)
+unions::union_member_types-loop-behind-init t c = rw (c.in_ok-here.ensures.items, c.new-list.ensures.items) (listing_start (due_list c.requires refl (present (list_tried c.requires refl) c.in-Some.ensures.right)) refl c.in_ok-here.ensures.built)
 
 pub unions::union_member_types-end-requires-in-loop-behind : goal.unions::union_member_types-end-requires-in-loop-behind
-unions::union_member_types-end-requires-in-loop-behind t c = c.loop-behind.invariant.tail.boundary.0
+unions::union_member_types-end-requires-in-loop-behind t c = separator_tried c.loop-behind.invariant.tail
 
 pub unions::union_member_types-end-requires-in-Some-end : goal.unions::union_member_types-end-requires-in-Some-end
-unions::union_member_types-end-requires-in-Some-end t c = (behind_boundary c.loop-behind.invariant.tail c.in-Some-end.ensures.right).0
+unions::union_member_types-end-requires-in-Some-end t c = behind_tried c.loop-behind.invariant.tail c.in-Some-end.ensures.right
 
 pub unions::union_member_types-returns-in_default-end-2 : goal.unions::union_member_types-returns-in_default-end-2
 unions::union_member_types-returns-in_default-end-2 t c = list_built refl refl (listing_back c.loop-behind.invariant refl refl c.in-Some-end.ensures.right c.in_default-end-2.ensures.right) c.visit-in_default-end-2.ensures
@@ -324,7 +328,7 @@ pub unions::union_member_types-add_union_member_type-requires-in-Some-end : goal
 unions::union_member_types-add_union_member_type-requires-in-Some-end t c = let d = behind_due c.loop-behind.invariant.tail c.in-Some-end.ensures.right c.in-Some-end-2.ensures.right in let b = listing_behind refl c.loop-behind.invariant c.in-Some-end.ensures.right in (omega (arith, d.boundary.0), d)
 
 pub unions::union_member_types-loop-behind-smaller : goal.unions::union_member_types-loop-behind-smaller
-unions::union_member_types-loop-behind-smaller t c = let n = listing_next c.loop-behind.invariant c.in-Some-end.ensures.right c.in_ok-here-2.ensures.built in omega (arith, n.1, n.0.tail.boundary.0)
+unions::union_member_types-loop-behind-smaller t c = let n = listing_next c.loop-behind.invariant c.in-Some-end.ensures.right c.in_ok-here-2.ensures.built in omega (arith, n.1, n.0.tail.due.boundary.0)
 
 pub unions::union_member_types-loop-behind-preserved : goal.unions::union_member_types-loop-behind-preserved
 unions::union_member_types-loop-behind-preserved t c = rw (c.in_ok-here-2.ensures.items, map_push union_member_type_tree c.loop-behind.list.items c.in_ok-here-2.ensures.value) (listing_next c.loop-behind.invariant c.in-Some-end.ensures.right c.in_ok-here-2.ensures.built).0
@@ -332,20 +336,23 @@ unions::union_member_types-loop-behind-preserved t c = rw (c.in_ok-here-2.ensure
 pub unions::union_member_types-returns : goal.unions::union_member_types-returns
 unions::union_member_types-returns t c = list_built refl refl (listing_end c.loop-behind.invariant refl refl c.in_default-end.ensures.right) c.visit-2.ensures
 
+pub attributes::extended_attributes-end-requires : goal.attributes::extended_attributes-end-requires
+attributes::extended_attributes-end-requires t c = list_tried c.requires refl
+
 pub attributes::extended_attributes-returns-in_default : goal.attributes::extended_attributes-returns-in_default
 attributes::extended_attributes-returns-in_default t c = rw c.new-list.ensures.items (list_empty refl refl (absent c.in_default.ensures.right) c.visit.ensures)
 
 pub attributes::extended_attributes-extended_attribute-requires : goal.attributes::extended_attributes-extended_attribute-requires
-attributes::extended_attributes-extended_attribute-requires t c = (omega arith, present c.requires.utf8 c.requires.boundary c.in-Some.ensures.right)
+attributes::extended_attributes-extended_attribute-requires t c = (omega arith, present (list_tried c.requires refl) c.in-Some.ensures.right)
 
 pub attributes::extended_attributes-loop-behind-init : goal.attributes::extended_attributes-loop-behind-init
-attributes::extended_attributes-loop-behind-init t c = rw (c.in_ok-here.ensures.items, c.new-list.ensures.items) (listing_start (due_list c.requires refl (present c.requires.utf8 c.requires.boundary c.in-Some.ensures.right)) refl (kept extended_attribute_tree c.in_ok-here.ensures c.extended_attribute.ensures))
+attributes::extended_attributes-loop-behind-init t c = rw (c.in_ok-here.ensures.items, c.new-list.ensures.items) (listing_start (due_list c.requires refl (present (list_tried c.requires refl) c.in-Some.ensures.right)) refl (kept extended_attribute_tree c.in_ok-here.ensures c.extended_attribute.ensures))
 
 pub attributes::extended_attributes-end-requires-in-loop-behind : goal.attributes::extended_attributes-end-requires-in-loop-behind
-attributes::extended_attributes-end-requires-in-loop-behind t c = c.loop-behind.invariant.tail.boundary.0
+attributes::extended_attributes-end-requires-in-loop-behind t c = separator_tried c.loop-behind.invariant.tail
 
 pub attributes::extended_attributes-end-requires-in-Some-end : goal.attributes::extended_attributes-end-requires-in-Some-end
-attributes::extended_attributes-end-requires-in-Some-end t c = (behind_boundary c.loop-behind.invariant.tail c.in-Some-end.ensures.right).0
+attributes::extended_attributes-end-requires-in-Some-end t c = behind_tried c.loop-behind.invariant.tail c.in-Some-end.ensures.right
 
 pub attributes::extended_attributes-returns-in_default-end-2 : goal.attributes::extended_attributes-returns-in_default-end-2
 attributes::extended_attributes-returns-in_default-end-2 t c = list_built refl refl (listing_back c.loop-behind.invariant refl refl c.in-Some-end.ensures.right c.in_default-end-2.ensures.right) c.visit-in_default-end-2.ensures
@@ -354,7 +361,7 @@ pub attributes::extended_attributes-extended_attribute-requires-in-Some-end : go
 attributes::extended_attributes-extended_attribute-requires-in-Some-end t c = let d = behind_due c.loop-behind.invariant.tail c.in-Some-end.ensures.right c.in-Some-end-2.ensures.right in let b = listing_behind refl c.loop-behind.invariant c.in-Some-end.ensures.right in (omega (arith, d.boundary.0), d)
 
 pub attributes::extended_attributes-loop-behind-smaller : goal.attributes::extended_attributes-loop-behind-smaller
-attributes::extended_attributes-loop-behind-smaller t c = let n = listing_next c.loop-behind.invariant c.in-Some-end.ensures.right (kept extended_attribute_tree c.in_ok-here-2.ensures c.extended_attribute-in-Some-end.ensures) in omega (arith, n.1, n.0.tail.boundary.0)
+attributes::extended_attributes-loop-behind-smaller t c = let n = listing_next c.loop-behind.invariant c.in-Some-end.ensures.right (kept extended_attribute_tree c.in_ok-here-2.ensures c.extended_attribute-in-Some-end.ensures) in omega (arith, n.1, n.0.tail.due.boundary.0)
 
 pub attributes::extended_attributes-loop-behind-preserved : goal.attributes::extended_attributes-loop-behind-preserved
 attributes::extended_attributes-loop-behind-preserved t c = rw (c.in_ok-here-2.ensures.items, map_push extended_attribute_tree c.loop-behind.list.items c.in_ok-here-2.ensures.value) (listing_next c.loop-behind.invariant c.in-Some-end.ensures.right (kept extended_attribute_tree c.in_ok-here-2.ensures c.extended_attribute-in-Some-end.ensures)).0
@@ -362,20 +369,23 @@ attributes::extended_attributes-loop-behind-preserved t c = rw (c.in_ok-here-2.e
 pub attributes::extended_attributes-returns : goal.attributes::extended_attributes-returns
 attributes::extended_attributes-returns t c = list_built refl refl (listing_end c.loop-behind.invariant refl refl c.in_default-end.ensures.right) c.visit-2.ensures
 
+pub arguments::argument_list-end-requires : goal.arguments::argument_list-end-requires
+arguments::argument_list-end-requires t c = list_tried c.requires refl
+
 pub arguments::argument_list-returns-in_default : goal.arguments::argument_list-returns-in_default
 arguments::argument_list-returns-in_default t c = rw c.new-list.ensures.items (list_empty refl refl (absent c.in_default.ensures.right) c.visit.ensures)
 
 pub arguments::argument_list-argument-requires : goal.arguments::argument_list-argument-requires
-arguments::argument_list-argument-requires t c = (omega arith, present c.requires.utf8 c.requires.boundary c.in-Some.ensures.right)
+arguments::argument_list-argument-requires t c = (omega arith, present (list_tried c.requires refl) c.in-Some.ensures.right)
 
 pub arguments::argument_list-loop-behind-init : goal.arguments::argument_list-loop-behind-init
-arguments::argument_list-loop-behind-init t c = rw (c.in_ok-here.ensures.items, c.new-list.ensures.items) (listing_start (due_list c.requires refl (present c.requires.utf8 c.requires.boundary c.in-Some.ensures.right)) refl (kept argument_tree c.in_ok-here.ensures c.argument.ensures))
+arguments::argument_list-loop-behind-init t c = rw (c.in_ok-here.ensures.items, c.new-list.ensures.items) (listing_start (due_list c.requires refl (present (list_tried c.requires refl) c.in-Some.ensures.right)) refl (kept argument_tree c.in_ok-here.ensures c.argument.ensures))
 
 pub arguments::argument_list-end-requires-in-loop-behind : goal.arguments::argument_list-end-requires-in-loop-behind
-arguments::argument_list-end-requires-in-loop-behind t c = c.loop-behind.invariant.tail.boundary.0
+arguments::argument_list-end-requires-in-loop-behind t c = separator_tried c.loop-behind.invariant.tail
 
 pub arguments::argument_list-end-requires-in-Some-end : goal.arguments::argument_list-end-requires-in-Some-end
-arguments::argument_list-end-requires-in-Some-end t c = (behind_boundary c.loop-behind.invariant.tail c.in-Some-end.ensures.right).0
+arguments::argument_list-end-requires-in-Some-end t c = behind_tried c.loop-behind.invariant.tail c.in-Some-end.ensures.right
 
 pub arguments::argument_list-returns-in_default-end-2 : goal.arguments::argument_list-returns-in_default-end-2
 arguments::argument_list-returns-in_default-end-2 t c = list_built refl refl (listing_back c.loop-behind.invariant refl refl c.in-Some-end.ensures.right c.in_default-end-2.ensures.right) c.visit-in_default-end-2.ensures
@@ -384,7 +394,7 @@ pub arguments::argument_list-argument-requires-in-Some-end : goal.arguments::arg
 arguments::argument_list-argument-requires-in-Some-end t c = let d = behind_due c.loop-behind.invariant.tail c.in-Some-end.ensures.right c.in-Some-end-2.ensures.right in let b = listing_behind refl c.loop-behind.invariant c.in-Some-end.ensures.right in (omega (arith, d.boundary.0), d)
 
 pub arguments::argument_list-loop-behind-smaller : goal.arguments::argument_list-loop-behind-smaller
-arguments::argument_list-loop-behind-smaller t c = let n = listing_next c.loop-behind.invariant c.in-Some-end.ensures.right (kept argument_tree c.in_ok-here-2.ensures c.argument-in-Some-end.ensures) in omega (arith, n.1, n.0.tail.boundary.0)
+arguments::argument_list-loop-behind-smaller t c = let n = listing_next c.loop-behind.invariant c.in-Some-end.ensures.right (kept argument_tree c.in_ok-here-2.ensures c.argument-in-Some-end.ensures) in omega (arith, n.1, n.0.tail.due.boundary.0)
 
 pub arguments::argument_list-loop-behind-preserved : goal.arguments::argument_list-loop-behind-preserved
 arguments::argument_list-loop-behind-preserved t c = rw (c.in_ok-here-2.ensures.items, map_push argument_tree c.loop-behind.list.items c.in_ok-here-2.ensures.value) (listing_next c.loop-behind.invariant c.in-Some-end.ensures.right (kept argument_tree c.in_ok-here-2.ensures c.argument-in-Some-end.ensures)).0
@@ -392,8 +402,11 @@ arguments::argument_list-loop-behind-preserved t c = rw (c.in_ok-here-2.ensures.
 pub arguments::argument_list-returns : goal.arguments::argument_list-returns
 arguments::argument_list-returns t c = list_built refl refl (listing_end c.loop-behind.invariant refl refl c.in_default-end.ensures.right) c.visit-2.ensures
 
+pub attributes::attributes-end-requires : goal.attributes::attributes-end-requires
+attributes::attributes-end-requires t c = option_tried c.requires refl
+
 pub attributes::attributes-extended_attribute_list-requires : goal.attributes::attributes-extended_attribute_list-requires
-attributes::attributes-extended_attribute_list-requires t c = (omega arith, present c.requires.utf8 c.requires.boundary c.in-Some.ensures.right)
+attributes::attributes-extended_attribute_list-requires t c = (omega arith, present (option_tried c.requires refl) c.in-Some.ensures.right)
 
 pub attributes::attributes-returns-in_ok-list-in-Some : goal.attributes::attributes-returns-in_ok-list-in-Some
 attributes::attributes-returns-in_ok-list-in-Some t c = option_some refl refl c.in_ok-list-in-Some.ensures c.visit.ensures
@@ -405,7 +418,7 @@ pub arguments::single_argument-attributes-requires : goal.arguments::single_argu
 arguments::single_argument-attributes-requires t c = let d = front (rest_of_if c.requires refl) in (omega (arith, d.boundary.0), d)
 
 pub arguments::single_argument-optional-requires : goal.arguments::single_argument-optional-requires
-arguments::single_argument-optional-requires t c = λ k. ((refl, tt), (refl, place_of (front (next c.in_ok-attributes.ensures (rest_of_if c.requires refl)))))
+arguments::single_argument-optional-requires t c = λ k. ((refl, tt), (refl, item_tried refl (front (next c.in_ok-attributes.ensures (rest_of_if c.requires refl)))))
 
 pub arguments::single_argument-attributed_type-requires : goal.arguments::single_argument-attributed_type-requires
 arguments::single_argument-attributed_type-requires t c = let d = front (next (c.in_ok-modifier.ensures OPT_OPTIONAL (option_of refl refl)) (next c.in_ok-attributes.ensures (rest_of_if c.requires refl))) in let b0 = not_before c.in_ok-attributes.ensures in let b1 = not_before (c.in_ok-modifier.ensures OPT_OPTIONAL (option_of refl refl)) in (omega (arith, d.boundary.0), d)
@@ -414,7 +427,7 @@ pub arguments::single_argument-build-requires : goal.arguments::single_argument-
 arguments::single_argument-build-requires t c = (refl, front (next c.in_ok-type_.ensures (next (c.in_ok-modifier.ensures OPT_OPTIONAL (option_of refl refl)) (next c.in_ok-attributes.ensures (rest_of_if c.requires refl)))))
 
 pub arguments::single_argument-optional-requires-in-Some : goal.arguments::single_argument-optional-requires-in-Some
-arguments::single_argument-optional-requires-in-Some t c = λ k. ((refl, tt), (refl, place_of (if_due c.in_ok-attributes.ensures (rw c.in-Some.is at c.in_ok-modifier.ensures OPT_OPTIONAL (option_of refl refl)) c.in_ok-type_.ensures c.in_ok-identifier.ensures refl refl c.requires)))
+arguments::single_argument-optional-requires-in-Some t c = λ k. ((refl, tt), (refl, item_tried refl (if_due c.in_ok-attributes.ensures (rw c.in-Some.is at c.in_ok-modifier.ensures OPT_OPTIONAL (option_of refl refl)) c.in_ok-type_.ensures c.in_ok-identifier.ensures refl refl c.requires)))
 
 pub arguments::single_argument-returns-in_ok-default-in-Some : goal.arguments::single_argument-returns-in_ok-default-in-Some
 arguments::single_argument-returns-in_ok-default-in-Some t c = if_there c.in_ok-attributes.ensures (rw c.in-Some.is at c.in_ok-modifier.ensures OPT_OPTIONAL (option_of refl refl)) c.in_ok-type_.ensures c.in_ok-identifier.ensures refl refl refl (c.in_ok-default-in-Some.ensures OPT_DEFAULT (option_of refl refl)) c.visit.ensures
