@@ -6,12 +6,15 @@ use Rattle.weedle_grammar.specs.Meaning.{Raw, Breaks, Yields, ReadsRow, by_row, 
 use Rattle.weedle_grammar.specs.written.Table.{webidl, row_of, shape_of, Reads}
 use Rattle.weedle_grammar.proofs.Unique.{one_outcome}
 use Rattle.weedle_rules.specs.Outcomes.{EndsAt}
+use Rattle.weedle_syntax.specs.declared.dialect.Dialect.{Dialect}
+use Rattle.weedle_syntax.specs.declared.dialect.Dialect.TheVariants.{Weedle2, Today}
 use Rattle.weedle_syntax.specs.declared.node.Node.{Node}
+use Rattle.weedle_syntax.specs.Dialects.{start_of, IsWholeIn, IsSyntaxIn}
 use Rattle.weedle_syntax.specs.Parts.{IsNode, HasParts}
-use Rattle.weedle_syntax.specs.Syntax.{IsWhole, IsSyntax, AreTrees, no_trees, a_tree, root_to}
+use Rattle.weedle_syntax.specs.Syntax.{AreTrees, no_trees, a_tree, node_to}
 use Rattle.weedle_syntax.proofs.ChildFacts.{Each}
 use Rattle.weedle_syntax.proofs.LeafFacts.{Covers, row_covers}
-use Rattle.weedle_formatter.specs.Words.{SaysTheSame, ReadsAs, IsReadAlike, words_of}
+use Rattle.weedle_formatter.specs.Words.{SaysTheSameIn, ReadsAsIn, IsReadAlikeIn, words_of}
 use Rattle.weedle_formatter.proofs.LawFacts.{turned}
 use Rattle.weedle_formatter.proofs.Said.{Said, says, is_solid, flat, one_said}
 use Rattle.weedle_formatter.proofs.Named.{is_pure, parts_each, told, names_any, names_pure}
@@ -67,13 +70,18 @@ module _ (text : List ℕ) where
       told_on n inner others (said a) (said b) p h.0 (nodes_told a (parts_read n inner p)) (nodes_told b h.1) (is_solid n.rule) refl
 
   -- the words of a whole text
-  all_said : (ns : List Node) (a : IsSyntax text ns) → solid (words_of text ns) ≡ flat 0 (said a)
-  all_said ns a = ap (λ z. solid (words_of text z)) (sym (append-nil ns)) ∙ words_said text 0 [] a (refl, tt) tt ∙ append-nil (flat 0 (said a))
+  all_said : (dialect : Dialect) (ns : List Node) (a : IsSyntaxIn dialect text ns) → solid (words_of text ns) ≡ flat 0 (said a)
+  all_said dialect ns a = ap (λ z. solid (words_of text z)) (sym (append-nil ns)) ∙ words_said text 0 [] a (refl, tt) tt ∙ append-nil (flat 0 (said a))
+
+  -- the rule of a whole text isn't of trivia
+  start_solid : (dialect : Dialect) → is_solid (start_of dialect) ≡ true
+  start_solid Weedle2 = refl
+  start_solid Today = refl
 
   -- its trees
-  whole_told : (ns : List Node) (a : IsSyntax text ns) → IsWhole text → (b : Told) × (bs : List Told) × (all_told (said a) ≡ b ∷ bs) × ReadsAs text b.given
-  whole_told ns a w =
-      let f = front {n = root_to (length text)} refl (nodes_told a (w, tt)) in
+  whole_told : (dialect : Dialect) (ns : List Node) (a : IsSyntaxIn dialect text ns) → IsWholeIn dialect text → (b : Told) × (bs : List Told) × (all_told (said a) ≡ b ∷ bs) × ReadsAsIn dialect text b.given
+  whole_told dialect ns a w =
+      let f = front {n = node_to (start_of dialect) (length text)} (start_solid dialect) (nodes_told a (w, tt)) in
       (f.first, f.others, f.is, f.told.reads)
 
 same_head : (b c : Told) (bs cs : List Told) → b ∷ bs ≡ c ∷ cs → b ≡ c
@@ -83,22 +91,22 @@ same_head b c bs cs e = ap head e
     head [] = b
     head (x ∷ xs) = x
 
-forth : (a b : List ℕ) → SaysTheSame a b → (ts : List Tree) → ReadsAs a ts → ReadsAs b ts
-forth a b s ts h =
-    let one : flat 0 (said s.raw_is) ≡ flat 0 (said s.out_is) = sym (all_said a s.raw_nodes s.raw_is) ∙ ap solid s.same ∙ all_said b s.out_nodes s.out_is in
+forth : (d : Dialect) (a b : List ℕ) → SaysTheSameIn d a b → (ts : List Tree) → ReadsAsIn d a ts → ReadsAsIn d b ts
+forth d a b s ts h =
+    let one : flat 0 (said s.raw_is) ≡ flat 0 (said s.out_is) = sym (all_said a d s.raw_nodes s.raw_is) ∙ ap solid s.same ∙ all_said b d s.out_nodes s.out_is in
     let same : said s.raw_is ≡ said s.out_is = (one_said 0 (said s.raw_is) (said s.out_is) [] [] tt tt (ap (λ z. z ++ []) one)).0 in
-    let (first, others, is, reads) = whole_told a s.raw_nodes s.raw_is s.raw_whole in
-    let (second, more, also, gives) = whole_told b s.out_nodes s.out_is s.out_whole in
+    let (first, others, is, reads) = whole_told a d s.raw_nodes s.raw_is s.raw_whole in
+    let (second, more, also, gives) = whole_told b d s.out_nodes s.out_is s.out_whole in
     let given : first ≡ second = same_head _ _ _ _ (sym is ∙ ap all_told same ∙ also) in
     let trees : first.given ≡ ts = (same_gives _ _ _ _ (one_outcome reads h refl)).0 in
-    subst (ReadsAs b) (ap (λ z. z.given) (sym given) ∙ trees) gives
+    subst (ReadsAsIn d b) (ap (λ z. z.given) (sym given) ∙ trees) gives
 
 -- one gives what the other gives
-pub same_reading : (a b : List ℕ) → SaysTheSame a b → IsReadAlike a b
-unfolding IsReadAlike
-same_reading a b s = λ ts. (forth a b s ts, forth b a (turned a b s) ts)
+pub same_reading : (d : Dialect) (a b : List ℕ) → SaysTheSameIn d a b → IsReadAlikeIn d a b
+unfolding IsReadAlikeIn
+same_reading d a b s = λ ts. (forth d a b s ts, forth d b a (turned d a b s) ts)
 
 -- a text that stays as it is
-pub read_as_itself : (raw out : List ℕ) → out ≡ raw → IsReadAlike raw out
-unfolding IsReadAlike
-read_as_itself raw out e ts = (subst (λ z. ReadsAs z ts) (sym e), subst (λ z. ReadsAs z ts) e)
+pub read_as_itself : (d : Dialect) (raw out : List ℕ) → out ≡ raw → IsReadAlikeIn d raw out
+unfolding IsReadAlikeIn
+read_as_itself d raw out e ts = (subst (λ z. ReadsAsIn d z ts) (sym e), subst (λ z. ReadsAsIn d z ts) e)

@@ -4,10 +4,11 @@ use Rattle.std.specs.Prelude.{◌≡◌, ◌↔◌, ◌==◌, ◌||◌, ℕ, Boo
 use Rattle.weedle_grammar.specs.Meaning.{between}
 use Rattle.weedle_grammar.specs.Trees.{Tree, Gives}
 use Rattle.weedle_grammar.specs.written.Table.{Reads}
-use Rattle.weedle_grammar.specs.written.Table.Definitions.{DEFINITIONS}
 use Rattle.weedle_grammar.specs.written.Table.Trivia.{BYTES_LF, NOT_NEXT_ANY, ONE_OF_BLANK, RUN_BLANK, BLANKS, PIECE}
+use Rattle.weedle_syntax.specs.declared.dialect.Dialect.{Dialect}
+use Rattle.weedle_syntax.specs.declared.dialect.Dialect.TheVariants.{Weedle2}
 use Rattle.weedle_syntax.specs.declared.node.Node.{Node}
-use Rattle.weedle_syntax.specs.Syntax.{IsWhole, IsSyntax}
+use Rattle.weedle_syntax.specs.Dialects.{start_of, IsWholeIn, IsSyntaxIn}
 
 -- the LF of a line comment, or the end of the text in its place
 abbrev pub is_comment_end : ℕ → Bool
@@ -42,20 +43,28 @@ abbrev pub words_of : List ℕ → List Node → List Word
 words_of text [] = []
 words_of text (n ∷ ns) = if is_left_out n.rule then words_of text ns else word_of text n ns ∷ words_of text ns
 
--- both texts are read whole, and their syntax trees have the same words
-pub record SaysTheSame (raw out : List ℕ) : Type 0 where
-  pub raw_whole : IsWhole raw
-  pub out_whole : IsWhole out
+-- the dialect's rules read both texts whole, and their syntax trees have the same words
+pub record SaysTheSameIn (dialect : Dialect) (raw out : List ℕ) : Type 0 where
+  pub raw_whole : IsWholeIn dialect raw
+  pub out_whole : IsWholeIn dialect out
   pub raw_nodes : List Node
   pub out_nodes : List Node
-  pub raw_is : IsSyntax raw raw_nodes
-  pub out_is : IsSyntax out out_nodes
+  pub raw_is : IsSyntaxIn dialect raw raw_nodes
+  pub out_is : IsSyntaxIn dialect out out_nodes
   pub same : words_of raw raw_nodes ≡ words_of out out_nodes
 
--- the grammar reads the whole text, and gives these trees
-abbrev pub ReadsAs : List ℕ → List Tree → Type 0
-ReadsAs text ts = Reads text DEFINITIONS 0 (Gives ts (length text))
+-- so do weedle2's rules
+abbrev pub SaysTheSame : List ℕ → List ℕ → Type 0
+SaysTheSame raw out = SaysTheSameIn Weedle2 raw out
 
--- whatever trees the grammar reads of the whole of one text, it reads of the whole of the other, and the other way round
-unfoldable pub IsReadAlike : List ℕ → List ℕ → Type 0
-IsReadAlike raw out = (ts : List Tree) → ReadsAs raw ts ↔ ReadsAs out ts
+-- the dialect's rules read the whole text, and give these trees
+abbrev pub ReadsAsIn : Dialect → List ℕ → List Tree → Type 0
+ReadsAsIn dialect text ts = Reads text (start_of dialect) 0 (Gives ts (length text))
+
+-- whatever trees the dialect's rules read of the whole of one text, they read of the whole of the other, and the other way round
+unfoldable pub IsReadAlikeIn : Dialect → List ℕ → List ℕ → Type 0
+IsReadAlikeIn dialect raw out = (ts : List Tree) → ReadsAsIn dialect raw ts ↔ ReadsAsIn dialect out ts
+
+-- so do weedle2's rules
+abbrev pub IsReadAlike : List ℕ → List ℕ → Type 0
+IsReadAlike raw out = IsReadAlikeIn Weedle2 raw out

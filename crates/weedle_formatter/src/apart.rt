@@ -5,6 +5,9 @@ use crate::piece::{Gap, Joint, Piece};
 use weedle_grammar::grammar::definitions::{
     CALLBACK_DEFINITION, IMPLEMENTS_DEFINITION, INCLUDES_STATEMENT_DEFINITION, TYPEDEF_DEFINITION,
 };
+use weedle_grammar::grammar::today_definitions::{
+    TODAY_CALLBACK, TODAY_IMPLEMENTS, TODAY_INCLUDES, TODAY_TYPEDEF,
+};
 use weedle_layout::Statement;
 
 /// Sets an empty line between definitions, except in front of those that may be right below the one
@@ -42,10 +45,10 @@ fn kind_at(pieces: &[Piece], i: usize) -> Statement {
 /// What a definition is by its rule: a statement has no braces, as `typedef long L;`.
 pub(crate) fn statement_of(rule: u16) -> Statement {
     match rule {
-        CALLBACK_DEFINITION => Statement::Callback,
-        TYPEDEF_DEFINITION => Statement::Typedef,
-        INCLUDES_STATEMENT_DEFINITION => Statement::Includes,
-        IMPLEMENTS_DEFINITION => Statement::Implements,
+        CALLBACK_DEFINITION | TODAY_CALLBACK => Statement::Callback,
+        TYPEDEF_DEFINITION | TODAY_TYPEDEF => Statement::Typedef,
+        INCLUDES_STATEMENT_DEFINITION | TODAY_INCLUDES => Statement::Includes,
+        IMPLEMENTS_DEFINITION | TODAY_IMPLEMENTS => Statement::Implements,
         _ => Statement::Other,
     }
 }

@@ -131,7 +131,8 @@ fn bytes_of<'a>(text: &'a [u8], piece: &Piece) -> &'a [u8] {
     between(text, piece.start, piece.end)
 }
 
-/// Whether the extended attributes that end before a piece take a line of their own.
+/// Whether the extended attributes that end before a piece take a line of their own. Several lists
+/// on a line count together.
 fn are_long(pieces: &[Piece], behind: usize) -> bool {
     let mut width: usize = 0;
     let mut depth: usize = 0;
@@ -148,11 +149,12 @@ fn are_long(pieces: &[Piece], behind: usize) -> bool {
             Role::OpensList | Role::OpensUnion => depth = depth.saturating_sub(1),
             _ => {}
         }
-        if depth == 0 || width > MOST_IN_FRONT {
+        let is_first_list = depth == 0 && piece.joint != Joint::BehindAttributes;
+        if is_first_list || width > MOST_IN_FRONT {
             break;
         }
         if piece.gap.is_line() {
-            return true;
+            return depth > 0;
         }
         width = width.saturating_add(piece.gap.width());
     }

@@ -3,10 +3,11 @@
 use crate::apart::statement_of;
 use crate::fits::line_fits;
 use crate::piece::{Gap, Joint, Piece, Role};
+use weedle_grammar::grammar::symbols::OPEN_BRACKET;
 use weedle_layout::{Statement, indentation};
 
 /// Puts extended attributes on a line of their own, where the line of the member or the statement
-/// behind them wouldn't fit with them.
+/// behind them wouldn't fit with them. Lists one behind another stay together.
 pub(crate) fn set_in_front(pieces: &mut [Piece]) {
     let mut blanks = 0;
     let mut is_statement_begun = false;
@@ -21,7 +22,8 @@ pub(crate) fn set_in_front(pieces: &mut [Piece]) {
             Role::ClosesBody => blanks = 0,
             _ => {}
         }
-        if piece.joint == Joint::BehindAttributes && !piece.is_comment() {
+        let is_other_list = piece.rule == OPEN_BRACKET;
+        if piece.joint == Joint::BehindAttributes && !piece.is_comment() && !is_other_list {
             if (blanks > 0 || is_statement_begun) && !line_fits(pieces, first, blanks) {
                 begin_line(pieces, first, i);
             }

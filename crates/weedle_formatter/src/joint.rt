@@ -12,6 +12,16 @@ use weedle_grammar::grammar::simple_types::TAIL_IDENTIFIER_COMMA;
 use weedle_grammar::grammar::symbols::{
     ASSIGN, CLOSE_BRACE, COMMA, LESS_THAN, OPEN_BRACE, OPEN_BRACKET, OPEN_PAREN,
 };
+use weedle_grammar::grammar::today_members::{
+    BRACED_TODAY_DICTIONARY_MEMBERS, BRACED_TODAY_ENUM_VALUES, BRACED_TODAY_INTERFACE_MEMBERS,
+    BRACED_TODAY_MIXIN_MEMBERS, BRACED_TODAY_NAMESPACE_MEMBERS, TAIL_TODAY_ENUM_VALUE_COMMA,
+};
+use weedle_grammar::grammar::today_types::{
+    TAIL_TODAY_ARGUMENT_COMMA, TAIL_TODAY_ATTRIBUTE_COMMA, TAIL_TODAY_UNION_MEMBER_TYPE_OR,
+    TODAY_ARGUMENTS, TODAY_ATTRIBUTE_NAMED_ARG_LIST, TODAY_ATTRIBUTE_NUMBER,
+    TODAY_ATTRIBUTE_NUMBERS, TODAY_ATTRIBUTE_STRINGS, TODAY_ATTRIBUTE_WILDCARD, TODAY_ATTRIBUTES,
+    TODAY_UNION_TYPE,
+};
 use weedle_grammar::grammar::types::{
     EXTENDED_ATTRIBUTE_IDENT, EXTENDED_ATTRIBUTE_IDENT_LIST, EXTENDED_ATTRIBUTE_LIST,
     EXTENDED_ATTRIBUTE_NAMED_ARG_LIST, PARENTHESIZED_ARGUMENT_LIST, TAIL_ARGUMENT_COMMA,
@@ -53,21 +63,30 @@ pub(crate) fn role_of(token: Token) -> Role {
         BRACED_INTERFACE_MEMBERS
         | BRACED_MIXIN_MEMBERS
         | BRACED_NAMESPACE_MEMBERS
-        | BRACED_DICTIONARY_MEMBERS => {
+        | BRACED_DICTIONARY_MEMBERS
+        | BRACED_TODAY_INTERFACE_MEMBERS
+        | BRACED_TODAY_MIXIN_MEMBERS
+        | BRACED_TODAY_NAMESPACE_MEMBERS
+        | BRACED_TODAY_DICTIONARY_MEMBERS => {
             if token.rule == OPEN_BRACE {
                 Role::OpensBody
             } else {
                 Role::ClosesBody
             }
         }
-        PARENTHESIZED_ARGUMENT_LIST | EXTENDED_ATTRIBUTE_LIST | BRACED_ENUM_VALUE_LIST => {
+        PARENTHESIZED_ARGUMENT_LIST
+        | EXTENDED_ATTRIBUTE_LIST
+        | BRACED_ENUM_VALUE_LIST
+        | TODAY_ARGUMENTS
+        | TODAY_ATTRIBUTES
+        | BRACED_TODAY_ENUM_VALUES => {
             if opens(token.rule) {
                 Role::OpensList
             } else {
                 Role::ClosesList
             }
         }
-        UNION_TYPE => {
+        UNION_TYPE | TODAY_UNION_TYPE => {
             if opens(token.rule) {
                 Role::OpensUnion
             } else {
@@ -89,9 +108,14 @@ fn opens(rule: u16) -> bool {
 /// Whether an item of a list begins behind the token, which may be broken there.
 pub(crate) fn ends_item(token: Token) -> bool {
     match token.parent {
-        TAIL_ARGUMENT_COMMA | TAIL_EXTENDED_ATTRIBUTE_COMMA | TAIL_ENUM_VARIANT_COMMA | OPT_COMMA =>
-            { token.rule == COMMA }
-        TAIL_UNION_MEMBER_TYPE_OR => token.rule == OR,
+        TAIL_ARGUMENT_COMMA
+        | TAIL_EXTENDED_ATTRIBUTE_COMMA
+        | TAIL_ENUM_VARIANT_COMMA
+        | OPT_COMMA
+        | TAIL_TODAY_ARGUMENT_COMMA
+        | TAIL_TODAY_ATTRIBUTE_COMMA
+        | TAIL_TODAY_ENUM_VALUE_COMMA => token.rule == COMMA,
+        TAIL_UNION_MEMBER_TYPE_OR | TAIL_TODAY_UNION_MEMBER_TYPE_OR => token.rule == OR,
         _ => role_of(token).opens_list(),
     }
 }
@@ -101,7 +125,12 @@ fn is_assign_of_attribute(token: Token) -> bool {
     match token.parent {
         EXTENDED_ATTRIBUTE_IDENT
         | EXTENDED_ATTRIBUTE_IDENT_LIST
-        | EXTENDED_ATTRIBUTE_NAMED_ARG_LIST => token.rule == ASSIGN,
+        | EXTENDED_ATTRIBUTE_NAMED_ARG_LIST
+        | TODAY_ATTRIBUTE_NAMED_ARG_LIST
+        | TODAY_ATTRIBUTE_WILDCARD
+        | TODAY_ATTRIBUTE_NUMBER
+        | TODAY_ATTRIBUTE_NUMBERS
+        | TODAY_ATTRIBUTE_STRINGS => token.rule == ASSIGN,
         _ => false,
     }
 }
@@ -116,7 +145,7 @@ fn is_tight(before: Token, token: Token, are_apart: bool) -> bool {
     }
     match token.parent {
         EMPTY_DICTIONARY_LIT => token.rule == CLOSE_BRACE,
-        PARENTHESIZED_ARGUMENT_LIST => !are_apart && token.rule == OPEN_PAREN,
+        PARENTHESIZED_ARGUMENT_LIST | TODAY_ARGUMENTS => !are_apart && token.rule == OPEN_PAREN,
         _ => before.parent == TAIL_IDENTIFIER_COMMA && before.rule == COMMA,
     }
 }

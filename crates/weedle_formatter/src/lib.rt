@@ -7,6 +7,17 @@
 //!     assert_eq!(rt; answer.text.as_str(), "interface A {\n  attribute long x;\n};\n");
 //! }
 //! ```
+//!
+//! [`format_in`] reads by the rules of a dialect:
+//!
+//! ```rust
+//! use weedle_formatter::format_in;
+//! use weedle_syntax::Dialect;
+//!
+//! if let Some(answer) = format_in(rt.alloc(), "[Exposed=*]interface A{};", Dialect::Today)? {
+//!     assert_eq!(rt; answer.text.as_str(), "[Exposed=*] interface A {};\n");
+//! }
+//! ```
 #![tactic(auto)]
 
 mod apart;
@@ -22,6 +33,6 @@ mod piece;
 mod pieces;
 mod words;
 
-pub use formatter::{Formatted, format};
+pub use formatter::{Formatted, format, format_in};
 pub use page::lay_out;
 pub use words::same_words;

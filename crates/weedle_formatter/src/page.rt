@@ -199,7 +199,11 @@ impl Page {
             Some(width) => self.column.saturating_add(width),
             None => characters_of_last_line(bytes),
         };
-        self.is_line_begun = piece.kind == Kind::DocLine;
+        // What ends with the text, or with its LF, takes no line end more.
+        self.is_line_begun = match piece.kind {
+            Kind::DocLine | Kind::Rest => true,
+            Kind::Token | Kind::LineComment | Kind::BlockComment => false,
+        };
         self.is_behind_comment = piece.kind == Kind::LineComment;
         if piece.role == Role::OpensBody {
             self.level = self.level.saturating_add(1);

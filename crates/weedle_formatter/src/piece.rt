@@ -11,8 +11,10 @@ pub(crate) enum Kind {
     LineComment,
     /// A block comment, as `/* c */`.
     BlockComment,
-    /// A docstring's line, as `/// c`, with its LF.
+    /// A docstring's line, as `/// c`, with its LF; the last one of a text may lack it.
     DocLine,
+    /// Comments and whitespace that end the text, as they are.
+    Rest,
 }
 
 /// How a token relates to the token before it, where no comment is in between. A docstring's line
@@ -123,7 +125,7 @@ impl Piece {
     pub(crate) fn is_comment(&self) -> bool {
         match self.kind {
             Kind::LineComment | Kind::BlockComment => true,
-            Kind::Token | Kind::DocLine => false,
+            Kind::Token | Kind::DocLine | Kind::Rest => false,
         }
     }
 }

@@ -9,8 +9,19 @@ use weedle_grammar::grammar::interface_members::{INTERFACE_MEMBER, OPT_IDENTIFIE
 use weedle_grammar::grammar::leaves::{BYTES_THREE_SLASHES, DOC_LINE, PAST_LF};
 use weedle_grammar::grammar::other_members::{DICTIONARY_MEMBER, MIXIN_MEMBER, NAMESPACE_MEMBER};
 use weedle_grammar::grammar::symbols::CLOSE_BRACKET;
+use weedle_grammar::grammar::today_definitions::{
+    TODAY_CALLBACK, TODAY_DEFINITION, TODAY_DEFINITION_KIND,
+};
+use weedle_grammar::grammar::today_members::{
+    TODAY_DICTIONARY_MEMBER, TODAY_INTERFACE_MEMBER, TODAY_MIXIN_MEMBER, TODAY_NAMESPACE_MEMBER,
+};
+use weedle_grammar::grammar::today_types::{
+    TODAY_ARGUMENT, TODAY_ARGUMENTS, TODAY_ATTRIBUTED_NON_ANY_TYPE, TODAY_ATTRIBUTED_TYPE,
+    TODAY_ATTRIBUTES,
+};
+use weedle_grammar::grammar::today_words::{TODAY_LAST_DOC, TODAY_TRIVIA};
 use weedle_grammar::grammar::trivia::{
-    BLANKS, BLOCK_COMMENT, LINE_COMMENT, LINE_END, RUN_BLANK, TRIVIA,
+    BLANKS, BLOCK_COMMENT, LINE_COMMENT, LINE_END, RUN_BLANK, RUN_NOT_LINE_FEED, TRIVIA,
 };
 use weedle_grammar::grammar::types::{
     ATTRIBUTED_NON_ANY_TYPE, ATTRIBUTED_TYPE, EXTENDED_ATTRIBUTE_LIST, PARENTHESIZED_ARGUMENT_LIST,
@@ -36,10 +47,27 @@ struct Walk<'a> {
     begins: Option<Joint>,
     /// The rule of the definition that begins with it.
     definition: u16,
+    /// The number of the first piece of the last definition that has one.
+    first: usize,
     /// The last token.
     before: Token,
     /// The next parenthesis is apart from what is in front of it.
     is_apart: bool,
+}
+
+/// Sets of which rule the definition is whose first piece has this number.
+fn set_definition(pieces: &mut [Piece], first: usize, rule: u16) {
+    if let Some(piece) = pieces.get_mut(first) {
+        piece.definition = rule;
+    }
+}
+
+/// Whether the rule is of a callback.
+fn is_callback(rule: u16) -> bool {
+    match rule {
+        CALLBACK_DEFINITION | TODAY_CALLBACK => true,
+        _ => false,
+    }
 }
 
 /// How many pieces the text of these nodes has: a token has trivia on both sides.
@@ -57,6 +85,10 @@ fn count_of(nodes: &[Node]) -> usize {
 }
 
 /// The pieces of the text of these nodes, in their order.
+///
+/// Comments and whitespace that today's rules read behind the last definition and the docstrings
+/// there are one piece, up to the end of the text: each is a node that gives something, so none may
+/// come or go.
 pub(crate) fn pieces_of(
     alloc: Global,
     text: &[u8],
@@ -71,10 +103,15 @@ pub(crate) fn pieces_of(
         lines: 0,
         begins: None,
         definition: 0,
+        first: 0,
         before: Token::none(),
         is_apart: false,
     };
     for node in nodes {
+        if node.rule.number() == TODAY_TRIVIA {
+            walk.push_rest(node.start)?;
+            break;
+        }
         walk.enter(node)?;
     }
     Ok(walk.pieces)
@@ -106,6 +143,7 @@ impl<'a> Walk<'a> {
             LINE_END => self.push_line_comment(node.start)?,
             BLOCK_COMMENT => self.push_comment(Kind::BlockComment, node.start, node.end)?,
             PAST_LF => self.push_doc_line(node.end)?,
+            RUN_NOT_LINE_FEED if self.above(1) == TODAY_LAST_DOC => self.push_doc_line(node.end)?,
             _ => self.begin(number, last),
         }
         Ok(())
@@ -119,18 +157,35 @@ impl<'a> Walk<'a> {
 
     /// Keeps what begins with a node that reads tokens, where the last node is of this rule.
     fn begin(&mut self, number: u16, last: u16) {
-        if last == DEFINITION {
-            self.definition = number;
+        match last {
+            DEFINITION | TODAY_DEFINITION_KIND => self.define(number),
+            _ => {}
         }
         match number {
-            DEFINITION => self.begins = Some(Joint::Definition),
-            INTERFACE_MEMBER | MIXIN_MEMBER | NAMESPACE_MEMBER | DICTIONARY_MEMBER => {
-                self.begins = Some(Joint::Member)
-            }
-            PARENTHESIZED_ARGUMENT_LIST => {
-                self.is_apart = last == OPT_IDENTIFIER || self.above(1) == CALLBACK_DEFINITION
+            DEFINITION | TODAY_DEFINITION => self.begins = Some(Joint::Definition),
+            INTERFACE_MEMBER
+            | MIXIN_MEMBER
+            | NAMESPACE_MEMBER
+            | DICTIONARY_MEMBER
+            | TODAY_INTERFACE_MEMBER
+            | TODAY_MIXIN_MEMBER
+            | TODAY_NAMESPACE_MEMBER
+            | TODAY_DICTIONARY_MEMBER => self.begins = Some(Joint::Member),
+            PARENTHESIZED_ARGUMENT_LIST | TODAY_ARGUMENTS => {
+                self.is_apart = last == OPT_IDENTIFIER || is_callback(self.above(1))
             }
             _ => {}
+        }
+    }
+
+    /// Keeps of which rule a definition is: for its first piece, or in that where it is read, as a
+    /// docstring or extended attributes, before today's rules know what they belong to.
+    fn define(&mut self, number: u16) {
+        self.definition = number;
+        let first = self.first;
+        match self.begins {
+            Some(Joint::Definition) => {}
+            _ => set_definition(&mut self.pieces, first, number),
         }
     }
 
@@ -143,8 +198,11 @@ impl<'a> Walk<'a> {
         self.before = token;
         self.is_apart = false;
         self.begins = None;
-        if token.rule == CLOSE_BRACKET && token.parent == EXTENDED_ATTRIBUTE_LIST {
-            self.end_attributes();
+        if token.rule == CLOSE_BRACKET {
+            match token.parent {
+                EXTENDED_ATTRIBUTE_LIST | TODAY_ATTRIBUTES => self.end_attributes(),
+                _ => {}
+            }
         }
         Ok(())
     }
@@ -168,7 +226,13 @@ impl<'a> Walk<'a> {
     /// Keeps that extended attributes ended, where they are those of a definition or a member.
     fn end_attributes(&mut self) {
         match self.above(4) {
-            SINGLE_ARGUMENT | VARIADIC_ARGUMENT | ATTRIBUTED_TYPE | ATTRIBUTED_NON_ANY_TYPE => {}
+            SINGLE_ARGUMENT
+            | VARIADIC_ARGUMENT
+            | ATTRIBUTED_TYPE
+            | ATTRIBUTED_NON_ANY_TYPE
+            | TODAY_ARGUMENT
+            | TODAY_ATTRIBUTED_TYPE
+            | TODAY_ATTRIBUTED_NON_ANY_TYPE => {}
             _ => self.begins = Some(Joint::BehindAttributes),
         }
     }
@@ -207,6 +271,14 @@ impl<'a> Walk<'a> {
         Ok(())
     }
 
+    /// Adds all of the text from a place on, as it is.
+    fn push_rest(&mut self, start: usize) -> Result<(), AllocError> {
+        let mut piece = self.piece(start, self.text.len());
+        piece.kind = Kind::Rest;
+        piece.joint = Joint::Tight;
+        self.push(piece)
+    }
+
     /// A piece of these bytes.
     fn piece(&self, start: usize, end: usize) -> Piece {
         Piece {
@@ -230,6 +302,9 @@ impl<'a> Walk<'a> {
     /// Adds a piece.
     fn push(&mut self, piece: Piece) -> Result<(), AllocError> {
         self.lines = 0;
+        if piece.joint == Joint::Definition {
+            self.first = self.pieces.len();
+        }
         self.pieces.push(piece)?;
         Ok(())
     }

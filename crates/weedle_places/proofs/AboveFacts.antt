@@ -1,9 +1,10 @@
 -- The nodes above the one that comes next, while nodes are gone through.
 use Rattle.std.proofs.Common.{◌≡◌, inl, inr, ℕ, zero, suc, ◌+◌, ◌<◌, ◌≤◌, Bool, true, false, List, [], ◌∷◌, ◌++◌, length, take, refl, sym, subst, ◌∙◌, ap, arith, length-append}
 use Rattle.std.proofs.lemmas.Bool.{cases_lt}
+use Rattle.weedle_syntax.specs.declared.dialect.Dialect.{Dialect}
 use Rattle.weedle_syntax.specs.declared.node.Node.{Node}
+use Rattle.weedle_syntax.specs.Dialects.{IsFrontIn}
 use Rattle.weedle_syntax.specs.Tree.{IsChild}
-use Rattle.weedle_syntax.specs.Syntax.{IsFront}
 use Rattle.weedle_syntax.proofs.BelowFacts.{depth_at, below_reaches}
 use Rattle.weedle_syntax.proofs.StepFacts.{joined}
 use Rattle.weedle_places.specs.declared.above.Above.{Above}
@@ -107,18 +108,18 @@ module _ (ns : List Node) (i : ℕ) where
 pub open_none : (ns : List Node) (above : List Above) → above ≡ [] → AreOpen ns 0 above
 open_none ns above e = record { each = subst (AreAbove ns 0 0) (sym e) tt; none = λ z. e; many = λ j l. absurd (omega arith) }
 
-module _ (text : List ℕ) (ns : List Node) (front : IsFront text ns) (i : ℕ) (l : i < length ns) where
+module _ (dialect : Dialect) (text : List ℕ) (ns : List Node) (front : IsFrontIn dialect text ns) (i : ℕ) (l : i < length ns) where
   -- no node is deeper than those above it are many
   pub open_deep : (above : List Above) → AreOpen ns i above → depth_at ns i ≤ length above
   open_deep above o = by i refl
     where
       by : (k : ℕ) → i ≡ k → depth_at ns i ≤ length above
       by zero e =
-          let j = joined text ns front in
+          let j = joined dialect text ns front in
           let root = ap (λ z. depth_at ns z) e ∙ ap (λ n. n.depth) j.2.root in
           omega arith
       by (suc k) e =
-          let j = joined text ns front in
+          let j = joined dialect text ns front in
           let many = o.many k (omega arith) in
           let is : k + 1 ≡ i = omega arith in
           let up : depth_at ns (k + 1) ≤ depth_at ns k + 1 = elim (j.2.step k (omega arith)) [ inl h ↦ (let d = h.1 in omega arith) | inr h ↦ (let d = h.1 in omega arith) ] in

@@ -6,8 +6,10 @@ use Rattle.std.specs.Prelude.{cond, nat_lt, nat_le}
 use Rattle.std.specs.List.Sorted.{IsNonDecreasingBy}
 use Rattle.std.proofs.lemmas.List.Sorted.{IsNonDecreasingBy-from_default}
 use Rattle.weedle_grammar.specs.written.Table.{row_of}
+use Rattle.weedle_syntax.specs.declared.dialect.Dialect.{Dialect}
 use Rattle.weedle_syntax.specs.declared.node.Node.{Node}
-use Rattle.weedle_syntax.specs.Syntax.{IsFront, root_to}
+use Rattle.weedle_syntax.specs.Dialects.{start_of, IsFrontIn}
+use Rattle.weedle_syntax.specs.Syntax.{node_to, root_to}
 use Rattle.weedle_syntax.specs.Tree.{node_at, numbers_where}
 use Rattle.weedle_syntax.proofs.TreeFacts.{AreNodes, nodes_of}
 use Rattle.weedle_syntax.proofs.LeafFacts.{Tile, Level, row_covers, tile_append}
@@ -54,9 +56,9 @@ module _ (text : List ℕ) where
       let end = tile.1 in
       (omega arith, behind n ns inner others e (λ w q. nodes_rise ns w q e) a (row_covers text (n.depth + 1) (row_of n.rule) n.start n.end inner parts) (omega arith) tile.2)
 
-  pub front_rises : (ns : List Node) → IsFront text ns → IsNonDecreasingBy (λ (n : Node). n.start) ns
-  front_rises ns (end, reads, are) =
-      let rise = nodes_rise ns (root_to end ∷ []) 0 end (nodes_of text (root_to end ∷ []) ns are) (refl, omega arith, refl) in
+  pub front_rises : (dialect : Dialect) (ns : List Node) → IsFrontIn dialect text ns → IsNonDecreasingBy (λ (n : Node). n.start) ns
+  front_rises dialect ns (end, reads, are) =
+      let rise = nodes_rise ns (node_to (start_of dialect) end ∷ []) 0 end (nodes_of text (node_to (start_of dialect) end ∷ []) ns are) (refl, omega arith, refl) in
       IsNonDecreasingBy-from_default (λ (n : Node). n.start) ns (root_to 0) (λ i j. rise_from 0 ns i j rise)
 
 module _ (ns : List Node) (span : Span) where

@@ -5,6 +5,7 @@ pub mod WithinFacts
 pub mod NumberFacts
 pub mod CommentFacts
 pub mod PartFacts
+pub mod PieceFacts
 pub mod PlaceFacts
 pub mod ValueFacts
 pub mod RowFacts

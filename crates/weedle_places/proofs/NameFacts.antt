@@ -5,11 +5,16 @@ use Rattle.std.specs.Prelude.{cond}
 use Rattle.weedle_grammar.specs.Meaning.{between}
 use Rattle.weedle_grammar.specs.written.Table.{row_of}
 use Rattle.weedle_grammar.specs.written.Table.Trivia.{TRIVIA}
-use Rattle.weedle_grammar.specs.written.Table.Leaves.{OPT_BYTES_UNDERSCORE, IDENTIFIER_TEXT}
+use Rattle.weedle_grammar.specs.written.Table.Definitions.{DEFINITIONS}
+use Rattle.weedle_grammar.specs.written.Table.Leaves.{OPT_BYTES_UNDERSCORE, IDENTIFIER_TEXT, IDENTIFIER}
+use Rattle.weedle_grammar.specs.written.Table.TodayDefinitions.{TODAY_DEFINITIONS}
 use Rattle.weedle_rules.specs.Outcomes.{EndsAt}
+use Rattle.weedle_syntax.specs.declared.dialect.Dialect.{Dialect}
+use Rattle.weedle_syntax.specs.declared.dialect.Dialect.TheVariants.{Weedle2, Today}
 use Rattle.weedle_syntax.specs.declared.node.Node.{Node}
+use Rattle.weedle_syntax.specs.Dialects.{start_of, IsFrontIn}
 use Rattle.weedle_syntax.specs.Parts.{AreInTurn, AreParts}
-use Rattle.weedle_syntax.specs.Syntax.{IsFront, root_to}
+use Rattle.weedle_syntax.specs.Syntax.{root_to}
 use Rattle.weedle_syntax.specs.Tree.{node_at, below_of, numbers_where, children_of, IsChild}
 use Rattle.weedle_syntax.proofs.BelowFacts.{depth_at, below_within}
 use Rattle.weedle_syntax.proofs.InnerFacts.{children_are_parts}
@@ -22,7 +27,12 @@ use Rattle.weedle_places.specs.Roles.{role_of}
 use Rattle.weedle_places.proofs.NumberFacts.{AreBelow, numbers_more, numbers_below, at_number}
 use Rattle.weedle_places.proofs.RowFacts.{among, names_of, a_role, parts_named}
 
-module _ (text : List ℕ) (ns : List Node) (front : IsFront text ns) (i : ℕ) (l : i < length ns) where
+-- the rule of a whole text isn't that of names
+start_no_name : (dialect : Dialect) → start_of dialect ≡ IDENTIFIER → ⊥
+start_no_name Weedle2 h = let k : DEFINITIONS ≡ IDENTIFIER = h in omega (arith, k)
+start_no_name Today h = let k : TODAY_DEFINITIONS ≡ IDENTIFIER = h in omega (arith, k)
+
+module _ (dialect : Dialect) (text : List ℕ) (ns : List Node) (front : IsFrontIn dialect text ns) (i : ℕ) (l : i < length ns) where
   -- its children are nodes of the tree
   pub children_within : AreBelow (length ns) (children_of ns i)
   children_within =
@@ -41,16 +51,16 @@ module _ (text : List ℕ) (ns : List Node) (front : IsFront text ns) (i : ℕ) 
     where
       by : (k : ℕ) → i ≡ k → 0 < depth_at ns i
       by zero e =
-          let j = joined text ns front in
-          let root = ap (λ z. (node_at ns z).rule) e ∙ ap (λ n. n.rule) j.2.root in
-          let name = eqb-true _ _ h in
-          absurd (omega (arith, root, name))
-      by (suc k) e = let j = joined text ns front in j.2.deep i (omega arith) l
+          let j = joined dialect text ns front in
+          let root : (node_at ns i).rule ≡ start_of dialect = ap (λ z. (node_at ns z).rule) e ∙ ap (λ n. n.rule) j.2.root in
+          let name : (node_at ns i).rule ≡ IDENTIFIER = eqb-true _ _ h in
+          absurd (start_no_name dialect (sym root ∙ name))
+      by (suc k) e = let j = joined dialect text ns front in j.2.deep i (omega arith) l
 
   -- a node that reads a name directly has a role for it
   pub child_role : (c : ℕ) (later : Bool) → IsChild ns i c → is_name ns c ≡ true → (role : Role) × (role_of (node_at ns i).rule later ≡ Some role)
   child_role c later h is =
-      let parts = children_are_parts text ns i front l in
+      let parts = children_are_parts dialect text ns i front l in
       let named = parts_named text (node_at ns i) (map (node_at ns) (children_of ns i)) parts in
       let behind = h.behind in
       let below = h.below in
@@ -72,7 +82,7 @@ module _ (text : List ℕ) (ns : List Node) (front : IsFront text ns) (i : ℕ) 
 
   pub name_parts : is_name ns i ≡ true → NameParts
   name_parts h =
-      let parts = children_are_parts text ns i front l in
+      let parts = children_are_parts dialect text ns i front l in
       let turn = subst (λ r. AreParts text (row_of r) ((node_at ns i).depth + 1) (node_at ns i).start (node_at ns i).end (map (node_at ns) (children_of ns i))) (eqb-true _ _ h) parts in
       by (children_of ns i) refl turn children_within
     where

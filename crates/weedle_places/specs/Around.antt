@@ -3,6 +3,8 @@
 use Rattle.std.specs.Prelude.{◌≡◌, ◌≤◌, ◌<◌, ◌+◌, ◌==◌, ◌&&◌, nat_lt, ℕ, Bool, true, List, [], ◌∷◌, Option, Some, None, MatchOption, unwrap_or, if◌then◌else◌}
 use Rattle.weedle_grammar.specs.written.Table.Trivia.{TRIVIA}
 use Rattle.weedle_grammar.specs.written.Table.InterfaceMembers.{OPT_IDENTIFIER}
+use Rattle.weedle_syntax.specs.declared.dialect.Dialect.{Dialect}
+use Rattle.weedle_syntax.specs.declared.dialect.Dialect.TheVariants.{Weedle2, Today}
 use Rattle.weedle_syntax.specs.declared.node.Node.{Node}
 use Rattle.weedle_syntax.specs.Tree.{node_at, below_of, children_of, FindsNext}
 use Rattle.weedle_places.specs.declared.span.Span.{Span}
@@ -62,15 +64,36 @@ abbrev pub name_of_kind : List Node → List ℕ → Option ℕ
 name_of_kind ns [] = None
 name_of_kind ns (k ∷ ks) = name_among ns (children_of ns k)
 
+-- the same of what the third of them reads directly: of today's rules, by which docstrings and extended attributes are
+-- in front of the kind
+abbrev pub name_behind : List Node → List ℕ → Option ℕ
+name_behind ns [] = None
+name_behind ns (docs ∷ []) = None
+name_behind ns (docs ∷ attributes ∷ []) = None
+name_behind ns (docs ∷ attributes ∷ choice ∷ more) = name_of_kind ns (children_of ns choice)
+
+-- the name that a kind reads directly, by the rules of a dialect
+abbrev pub name_of_kind_in : Dialect → List Node → List ℕ → Option ℕ
+name_of_kind_in Weedle2 ns cs = name_of_kind ns cs
+name_of_kind_in Today ns cs = name_behind ns cs
+
 abbrev pub or_other : Option ℕ → Option ℕ → Option ℕ
 or_other (Some name) other = Some name
 or_other None other = other
 
 -- the name of node i: one that it reads directly, or else one that its kind does
+abbrev pub own_name_in : Dialect → List Node → ℕ → Option ℕ
+own_name_in dialect ns i = or_other (name_among ns (children_of ns i)) (name_of_kind_in dialect ns (children_of ns i))
+
+-- the same by weedle2's rules
 abbrev pub own_name : List Node → ℕ → Option ℕ
-own_name ns i = or_other (name_among ns (children_of ns i)) (name_of_kind ns (children_of ns i))
+own_name ns i = own_name_in Weedle2 ns i
 
 -- where the name of node i is, if it has one
+abbrev pub HasNameIn : Dialect → List ℕ → List Node → ℕ → Option Span → Type 0
+HasNameIn dialect text ns i name =
+    MatchOption (own_name_in dialect ns i) (name ≡ None) (λ j. (span : Span) × (name ≡ Some span) × ((letters : List ℕ) × IsNamed text (node_at ns j).start (node_at ns j).end span letters))
+
+-- the same by weedle2's rules
 abbrev pub HasName : List ℕ → List Node → ℕ → Option Span → Type 0
-HasName text ns i name =
-    MatchOption (own_name ns i) (name ≡ None) (λ j. (span : Span) × (name ≡ Some span) × ((letters : List ℕ) × IsNamed text (node_at ns j).start (node_at ns j).end span letters))
+HasName text ns i name = HasNameIn Weedle2 text ns i name

@@ -9,3 +9,4 @@ pub mod References
 pub mod Above
 pub mod Around
 pub mod Standing
+pub mod Placed

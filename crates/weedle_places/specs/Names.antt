@@ -4,8 +4,10 @@ use Rattle.weedle_grammar.specs.Meaning.{between}
 use Rattle.weedle_grammar.specs.written.Table.Trivia.{TRIVIA}
 use Rattle.weedle_grammar.specs.written.Table.Leaves.{OPT_BYTES_UNDERSCORE, IDENTIFIER_TEXT, IDENTIFIER}
 use Rattle.weedle_rules.specs.Outcomes.{EndsAt}
+use Rattle.weedle_syntax.specs.declared.dialect.Dialect.{Dialect}
+use Rattle.weedle_syntax.specs.declared.dialect.Dialect.TheVariants.{Weedle2}
 use Rattle.weedle_syntax.specs.declared.node.Node.{Node}
-use Rattle.weedle_syntax.specs.Syntax.{IsSyntax}
+use Rattle.weedle_syntax.specs.Dialects.{IsSyntaxIn}
 use Rattle.weedle_syntax.specs.Tree.{node_at, numbers_where, IsChild}
 use Rattle.weedle_places.specs.declared.name.Name.{Name}
 use Rattle.weedle_places.specs.declared.role.Role.{Role}
@@ -55,6 +57,10 @@ AreSaid text ns (i ∷ is) (name ∷ names) = IsName text ns i name × AreSaid t
 abbrev pub AreNames : List ℕ → List Node → List Name → Type 0
 AreNames text ns names = AreSaid text ns (numbers_where (is_name ns) 0 (length ns)) names
 
--- the names of a text that is read whole
+-- the names of a text that the rules of a dialect read whole
+abbrev pub HasNamesIn : Dialect → List ℕ → List Name → Type 0
+HasNamesIn dialect text names = (ns : List Node) × IsSyntaxIn dialect text ns × AreNames text ns names
+
+-- the same by weedle2's rules
 abbrev pub HasNames : List ℕ → List Name → Type 0
-HasNames text names = (ns : List Node) × IsSyntax text ns × AreNames text ns names
+HasNames text names = HasNamesIn Weedle2 text names

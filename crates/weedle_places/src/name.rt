@@ -1,15 +1,24 @@
 //! The names of a text.
 
 ghost use Rattle.std.specs.Prelude.{◌≡◌, ◌↔◌, ◌<◌, true, length, IsSome, IfOk, IfSome};
-ghost use Rattle.weedle_places.specs.Names.{AreNames, HasNames, HasRole, IsName, IsNamed, is_name};
+ghost use Rattle.weedle_places.specs.Names.{
+  AreNames,
+  HasNames,
+  HasNamesIn,
+  HasRole,
+  IsName,
+  IsNamed,
+  is_name,
+};
 ghost use Rattle.weedle_places.specs.Places.{IsWhole};
+ghost use Rattle.weedle_syntax.specs.Dialects.{IsWholeIn};
 ghost use Rattle.weedle_syntax.specs.Tree.{node_at};
 
 use crate::above::role_at;
 use crate::role::Role;
 use crate::span::Span;
 use std::alloc::{AllocError, Global};
-use weedle_syntax::Syntax;
+use weedle_syntax::{Dialect, Syntax};
 
 /// A name in a text, and what it stands for.
 ///
@@ -93,6 +102,33 @@ pub fn names<'a>(alloc: Global, raw: &'a str) -> Result<Option<Vec<Name<'a>>>, A
         (λ found. IfSome found (λ names. HasNames raw.entry.now names.items)) }
 {
     match Syntax::new(alloc, raw)? {
+        Some(syntax) => {
+            let found = names_of(alloc, &syntax)?;
+            Ok(Some(found))
+        }
+        None => Ok(None),
+    }
+}
+
+/// Every name of a text and what it stands for, by the dialect's rules, in the order of the text;
+/// None where they don't read the text whole.
+///
+/// In `[Exposed=*] interface A { attribute ObservableArray<B> x; };` today's rules read `Exposed`,
+/// an extended attribute, `A`, `B`, a type, and `x`; weedle2's read nothing. Neither `*` nor
+/// `ObservableArray` is a name.
+///
+/// It reads as [`Syntax::new_in`] does, and costs the same; besides, it goes once through the
+/// nodes. Where memory is refused, the answer is an error.
+pub fn names_in<'a>(
+    alloc: Global,
+    raw: &'a str,
+    dialect: Dialect,
+) -> Result<Option<Vec<Name<'a>>>, AllocError>
+    ensures whole { IfOk result (λ found. IsSome found ↔ IsWholeIn dialect raw.entry.now) }
+    ensures are { IfOk result
+        (λ found. IfSome found (λ names. HasNamesIn dialect raw.entry.now names.items)) }
+{
+    match Syntax::new_in(alloc, raw, dialect)? {
         Some(syntax) => {
             let found = names_of(alloc, &syntax)?;
             Ok(Some(found))

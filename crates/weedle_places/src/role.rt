@@ -5,6 +5,8 @@ ghost use Rattle.weedle_places.specs.Roles.{
   of_definition as the_of_definition,
   of_member as the_of_member,
   of_part as the_of_part,
+  of_today_definition as the_of_today_definition,
+  of_today_part as the_of_today_part,
   of_later as the_of_later,
   role_of as the_role_of,
   is_reference as the_is_reference,
@@ -26,6 +28,20 @@ use weedle_grammar::grammar::other_members::{
 };
 use weedle_grammar::grammar::simple_types::{
     IDENTIFIER_LIST, MAY_BE_NULL_IDENTIFIER, TAIL_IDENTIFIER_COMMA,
+};
+use weedle_grammar::grammar::today_definitions::{
+    TODAY_CALLBACK, TODAY_CALLBACK_INTERFACE, TODAY_DICTIONARY, TODAY_ENUM, TODAY_IMPLEMENTS,
+    TODAY_INCLUDES, TODAY_INTERFACE, TODAY_MIXIN, TODAY_NAMESPACE, TODAY_PARTIAL_DICTIONARY,
+    TODAY_PARTIAL_INTERFACE, TODAY_PARTIAL_MIXIN, TODAY_PARTIAL_NAMESPACE, TODAY_TYPEDEF,
+};
+use weedle_grammar::grammar::today_members::{
+    TODAY_ATTRIBUTE_MEMBER, TODAY_CONST, TODAY_DICTIONARY_MEMBER, TODAY_MIXIN_ATTRIBUTE,
+    TODAY_NAMESPACE_ATTRIBUTE,
+};
+use weedle_grammar::grammar::today_types::{
+    TODAY_ATTRIBUTE_ARG_LIST, TODAY_ATTRIBUTE_NAMED_ARG_LIST, TODAY_ATTRIBUTE_NUMBER,
+    TODAY_ATTRIBUTE_NUMBERS, TODAY_ATTRIBUTE_STRINGS, TODAY_ATTRIBUTE_WILDCARD,
+    TODAY_OPTIONAL_ARGUMENT, TODAY_REQUIRED_ARGUMENT,
 };
 use weedle_grammar::grammar::types::{
     EXTENDED_ATTRIBUTE_ARG_LIST, EXTENDED_ATTRIBUTE_IDENT, EXTENDED_ATTRIBUTE_IDENT_LIST,
@@ -175,6 +191,52 @@ fn of_part(rule: u16) -> Option<Role>
     }
 }
 
+/// The role of the first name that a rule of today's definitions reads; None of another rule.
+fn of_today_definition(rule: u16) -> Option<Role>
+    ensures { result ≡ the_of_today_definition rule }
+{
+    match rule {
+        TODAY_CALLBACK => Some(Role::Callback),
+        TODAY_CALLBACK_INTERFACE => Some(Role::CallbackInterface),
+        TODAY_INTERFACE => Some(Role::Interface),
+        TODAY_MIXIN => Some(Role::Mixin),
+        TODAY_NAMESPACE => Some(Role::Namespace),
+        TODAY_DICTIONARY => Some(Role::Dictionary),
+        TODAY_PARTIAL_INTERFACE => Some(Role::PartialInterface),
+        TODAY_PARTIAL_MIXIN => Some(Role::PartialMixin),
+        TODAY_PARTIAL_DICTIONARY => Some(Role::PartialDictionary),
+        TODAY_PARTIAL_NAMESPACE => Some(Role::PartialNamespace),
+        TODAY_ENUM => Some(Role::Enum),
+        TODAY_TYPEDEF => Some(Role::Typedef),
+        TODAY_INCLUDES => Some(Role::Includer),
+        TODAY_IMPLEMENTS => Some(Role::Implementer),
+        _ => None,
+    }
+}
+
+/// The role of the name that a rule of today's members reads, or of the first name that a rule of
+/// their parts reads; None of another rule.
+fn of_today_part(rule: u16) -> Option<Role>
+    ensures { result ≡ the_of_today_part rule }
+{
+    match rule {
+        TODAY_CONST => Some(Role::Const),
+        TODAY_ATTRIBUTE_MEMBER => Some(Role::Attribute),
+        TODAY_MIXIN_ATTRIBUTE => Some(Role::Attribute),
+        TODAY_NAMESPACE_ATTRIBUTE => Some(Role::Attribute),
+        TODAY_DICTIONARY_MEMBER => Some(Role::DictionaryMember),
+        TODAY_OPTIONAL_ARGUMENT => Some(Role::Argument),
+        TODAY_REQUIRED_ARGUMENT => Some(Role::Argument),
+        TODAY_ATTRIBUTE_ARG_LIST => Some(Role::ExtendedAttribute),
+        TODAY_ATTRIBUTE_NAMED_ARG_LIST => Some(Role::ExtendedAttribute),
+        TODAY_ATTRIBUTE_WILDCARD => Some(Role::ExtendedAttribute),
+        TODAY_ATTRIBUTE_NUMBER => Some(Role::ExtendedAttribute),
+        TODAY_ATTRIBUTE_STRINGS => Some(Role::ExtendedAttribute),
+        TODAY_ATTRIBUTE_NUMBERS => Some(Role::ExtendedAttribute),
+        _ => None,
+    }
+}
+
 /// The role of a name before which another is that the same rule reads; None of a rule of which
 /// that has the role of the first.
 fn of_later(rule: u16) -> Option<Role>
@@ -184,6 +246,9 @@ fn of_later(rule: u16) -> Option<Role>
         EXTENDED_ATTRIBUTE_NAMED_ARG_LIST => Some(Role::ExtendedAttributeValue),
         INCLUDES_STATEMENT_DEFINITION => Some(Role::Included),
         IMPLEMENTS_DEFINITION => Some(Role::Implemented),
+        TODAY_ATTRIBUTE_NAMED_ARG_LIST => Some(Role::ExtendedAttributeValue),
+        TODAY_INCLUDES => Some(Role::Included),
+        TODAY_IMPLEMENTS => Some(Role::Implemented),
         _ => None,
     }
 }
@@ -205,5 +270,11 @@ pub(crate) fn role_of(rule: Rule, later: bool) -> Option<Role>
     if let Some(role) = of_member(number) {
         return Some(role);
     }
-    of_part(number)
+    if let Some(role) = of_part(number) {
+        return Some(role);
+    }
+    if let Some(role) = of_today_definition(number) {
+        return Some(role);
+    }
+    of_today_part(number)
 }

@@ -5,6 +5,7 @@ use Rattle.std.proofs.lemmas.Bool.{OnFalse_at, OnFalse_from}
 use Rattle.weedle_recovery.specs.Counts.{ReadingView, PartSteps, PartsSteps, AreStepsOf, IsCounted}
 use Rattle.weedle_recovery.specs.declared.part.Part.{Part}
 use Rattle.weedle_syntax.specs.Steps.{Spends, Steps}
+use Rattle.weedle_syntax.specs.declared.dialect.Dialect.{Dialect}
 
 steps_more : (text : List ℕ) (parts : List Part) (part : Part) (n k : ℕ) → PartsSteps text parts n → PartSteps text part k → PartsSteps text (parts ++ part ∷ []) (n + k)
 steps_more text [] part n k none s = (k, 0, s, refl, omega (arith, none))
@@ -49,6 +50,6 @@ module _ {reading : ReadingView} {parts : List Part} where
       })
 
 -- by descent, what is no longer left was taken for these parts, or more
-pub counted_steps : {text : List ℕ} {most left steps : ℕ} {parts : List Part} → IsCounted (record { text = text; by_table = false; most = most }) parts left → steps + left ≡ most
-    → AreStepsOf text parts steps
+pub counted_steps : {dialect : Dialect} {text : List ℕ} {most left steps : ℕ} {parts : List Part} → IsCounted (record { text = text; by_table = false; most = most; dialect = dialect }) parts left
+    → steps + left ≡ most → AreStepsOf text parts steps
 counted_steps c e = let k = c.counts in (k.0, k.1, omega (arith, k.2, e))

@@ -3,7 +3,10 @@ use Rattle.std.proofs.Common.{◌≡◌, ◌⊎◌, inl, inr, drop, ◌∙◌, �
 use Rattle.std.specs.List.{slice_get}
 use Rattle.weedle_rules.specs.Outcomes.{EndsAt, FailsAt}
 use Rattle.weedle_rules.proofs.OutcomeFacts.{one_end, not_both}
+use Rattle.weedle_recovery.specs.Dialects.{beginnings_of}
 use Rattle.weedle_recovery.specs.Stops.{AreRead, FrontReads, OneReads}
+use Rattle.weedle_syntax.specs.declared.dialect.Dialect.{Dialect}
+use Rattle.weedle_syntax.specs.declared.dialect.Dialect.TheVariants.{Weedle2, Today}
 
 -- one more number of a list
 take_suc : (xs : List ℕ) (n x : ℕ) → slice_get xs n ≡ Some x → take (suc n) xs ≡ take n xs ++ x ∷ []
@@ -59,28 +62,50 @@ module _ (text : List ℕ) where
         let m = take_past parts n many r l g in
         stuck (take n parts) m.0 r p at e a f (subst (λ rs. AreRead text rs p e) m.1 b)
 
+-- what is in front of a list, and what follows it
+pub get_front : (xs ys : List ℕ) (n r : ℕ) → slice_get xs n ≡ Some r → slice_get (xs ++ ys) n ≡ Some r
+get_front [] ys n r e = cc
+get_front (x ∷ xs) ys zero r e = e
+get_front (x ∷ xs) ys (suc n) r e = get_front xs ys n r e
+
+pub get_behind : (xs ys : List ℕ) (n k : ℕ) → slice_get xs n ≡ None → n ≡ length xs + k → slice_get (xs ++ ys) n ≡ slice_get ys k
+get_behind [] ys n k e i = let same : n ≡ k = omega (arith, i) in ap (slice_get ys) same
+get_behind (x ∷ xs) ys zero k e i = cc
+get_behind (x ∷ xs) ys (suc n) k e i = get_behind xs ys n k e (omega (arith, i))
+
+-- where a list has nothing, it has ended
+pub get_none : (xs : List ℕ) (n : ℕ) → slice_get xs n ≡ None → length xs ≤ n
+get_none [] n e = omega arith
+get_none (x ∷ xs) zero e = cc
+get_none (x ∷ xs) (suc n) e = let within : length xs ≤ n = get_none xs n e in omega (arith, within)
+
+-- no kind of definition has a greater number
+pub no_more : (dialect : Dialect) → slice_get (beginnings_of dialect) 14 ≡ None
+no_more Weedle2 = refl
+no_more Today = refl
+
 -- of the definitions that may begin at a place, those up to a number don't
-module _ (text : List ℕ) (p : ℕ) where
+module _ (dialect : Dialect) (text : List ℕ) (p : ℕ) where
   -- if one begins, it is one of those from this number on
   abbrev pub AreLeft : List (ℕ × ℕ) → ℕ → Type 0
-  AreLeft ds n = OneReads text ds p → OneReads text (drop n ds) p
+  AreLeft ds n = OneReads dialect text ds p → OneReads dialect text (drop n ds) p
 
-  pub one_reads : (ds : List (ℕ × ℕ)) (n : ℕ) {d : ℕ × ℕ} → slice_get ds n ≡ Some d → FrontReads text d.0 d.1 p → OneReads text ds p
+  pub one_reads : (ds : List (ℕ × ℕ)) (n : ℕ) {d : ℕ × ℕ} → slice_get ds n ≡ Some d → FrontReads dialect text d.0 d.1 p → OneReads dialect text ds p
   one_reads [] n e h = cc
-  one_reads (x ∷ ds) zero {d} e h = let s : d ≡ x = cc in inl (subst (λ z. FrontReads text z.0 z.1 p) s h)
+  one_reads (x ∷ ds) zero {d} e h = let s : d ≡ x = cc in inl (subst (λ z. FrontReads dialect text z.0 z.1 p) s h)
   one_reads (x ∷ ds) (suc n) e h = inr (one_reads ds n e h)
 
-  one_suc : (ds : List (ℕ × ℕ)) (n : ℕ) {d : ℕ × ℕ} → slice_get ds n ≡ Some d → (FrontReads text d.0 d.1 p → ⊥) → OneReads text (drop n ds) p
-      → OneReads text (drop (suc n) ds) p
+  one_suc : (ds : List (ℕ × ℕ)) (n : ℕ) {d : ℕ × ℕ} → slice_get ds n ≡ Some d → (FrontReads dialect text d.0 d.1 p → ⊥) → OneReads dialect text (drop n ds) p
+      → OneReads dialect text (drop (suc n) ds) p
   one_suc [] n e f h = cc
-  one_suc (x ∷ ds) zero {d} e f (inl h) = let s : x ≡ d = cc in absurd (f (subst (λ z. FrontReads text z.0 z.1 p) s h))
+  one_suc (x ∷ ds) zero {d} e f (inl h) = let s : x ≡ d = cc in absurd (f (subst (λ z. FrontReads dialect text z.0 z.1 p) s h))
   one_suc (x ∷ ds) zero e f (inr h) = h
   one_suc (x ∷ ds) (suc n) e f h = one_suc ds n e f h
 
-  pub one_less : (ds : List (ℕ × ℕ)) (n : ℕ) {d : ℕ × ℕ} → slice_get ds n ≡ Some d → (FrontReads text d.0 d.1 p → ⊥) → AreLeft ds n → AreLeft ds (n + 1)
-  one_less ds n e f left h = subst (λ z. OneReads text (drop z ds) p) (one_more n) (one_suc ds n e f (left h))
+  pub one_less : (ds : List (ℕ × ℕ)) (n : ℕ) {d : ℕ × ℕ} → slice_get ds n ≡ Some d → (FrontReads dialect text d.0 d.1 p → ⊥) → AreLeft ds n → AreLeft ds (n + 1)
+  one_less ds n e f left h = subst (λ z. OneReads dialect text (drop z ds) p) (one_more n) (one_suc ds n e f (left h))
 
-  pub none_left : (ds : List (ℕ × ℕ)) (n : ℕ) → slice_get ds n ≡ None → OneReads text (drop n ds) p → ⊥
+  pub none_left : (ds : List (ℕ × ℕ)) (n : ℕ) → slice_get ds n ≡ None → OneReads dialect text (drop n ds) p → ⊥
   none_left [] zero e h = h
   none_left [] (suc n) e h = h
   none_left (x ∷ ds) zero e h = cc

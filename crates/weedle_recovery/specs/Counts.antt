@@ -2,14 +2,16 @@
 use Rattle.std.specs.Prelude.{◌≡◌, ◌≤◌, ◌+◌, ℕ, Bool, true, false, List, [], ◌∷◌}
 use Rattle.std.specs.Bool.{OnFalse}
 use Rattle.weedle_recovery.specs.declared.part.Part.{Part}
+use Rattle.weedle_syntax.specs.declared.dialect.Dialect.{Dialect}
 use Rattle.weedle_syntax.specs.Steps.{Steps}
 
--- a text that is read at any place, as contracts see it: over its packrat table, or by descent,
--- which may try so many rules
+-- a text that is read at any place by the rules of a dialect, as contracts see it: over its packrat
+-- table, or by descent, which may try so many rules
 pub record ReadingView : Type 0 where
   pub text : List ℕ
   pub by_table : Bool
   pub most : ℕ
+  pub dialect : Dialect
 
 -- for a part so many rules are tried, where it is read; for one that isn't none are counted
 pub record PartSteps (text : List ℕ) (part : Part) (n : ℕ) : Type 0 where

@@ -1,3 +1,4 @@
+pub mod Dialects
 pub mod Tokens
 pub mod Stops
 pub mod Counts

@@ -3,13 +3,16 @@ use Rattle.std.specs.Prelude.{◌≡◌, ◌⊎◌, ◌≤◌, ◌+◌, ◌-◌,
 use Rattle.weedle_grammar.specs.written.Table.InterfaceMembers.{INTERFACE_MEMBER}
 use Rattle.weedle_grammar.specs.written.Table.OtherMembers.{DICTIONARY_MEMBER, MIXIN_MEMBER, NAMESPACE_MEMBER}
 use Rattle.weedle_grammar.specs.written.Table.Symbols.{CLOSE_BRACE, OPEN_BRACE, SEMI_COLON}
+use Rattle.weedle_grammar.specs.written.Table.TodayMembers.{TODAY_DICTIONARY_MEMBER, TODAY_INTERFACE_MEMBER, TODAY_MIXIN_MEMBER, TODAY_NAMESPACE_MEMBER}
 use Rattle.weedle_recovery.specs.declared.moved.Shift.{Shift}
 use Rattle.weedle_recovery.specs.declared.part.Part.{Part}
-use Rattle.weedle_refusal.specs.Refusal.{IsSaidFrom}
+use Rattle.weedle_refusal.specs.Refusal.{IsSaidFromIn}
 use Rattle.weedle_refusal.specs.Words.{this_text, word_view}
 use Rattle.weedle_refusal.specs.declared.hint.Hint.{Hint}
 use Rattle.weedle_refusal.specs.declared.hint.Hint.TheVariants as hint
 use Rattle.weedle_refusal.specs.declared.refusal.Refusal.{Refusal}
+use Rattle.weedle_syntax.specs.declared.dialect.Dialect.{Dialect}
+use Rattle.weedle_syntax.specs.declared.dialect.Dialect.TheVariants.{Weedle2, Today}
 
 -- the part is unread, and its places are those of the text in their order: its definition begins no further on than the part
 pub record IsUnread (raw : List ℕ) (part : Part) : Type 0 where
@@ -20,13 +23,18 @@ pub record IsUnread (raw : List ℕ) (part : Part) : Type 0 where
   pub of_start : IsCharBoundary raw part.start
   pub of_end : IsCharBoundary raw part.end
 
--- the shortest front of a definition whose body has members of rule r
-abbrev pub front_of : ℕ → Option (List ℕ)
-front_of r =
+-- the shortest front of a definition of the dialect whose body has members of rule r
+abbrev pub front_of : Dialect → ℕ → Option (List ℕ)
+front_of Weedle2 r =
     if r == INTERFACE_MEMBER then Some (codes "interface A{")
     else (if r == DICTIONARY_MEMBER then Some (codes "dictionary A{")
     else (if r == MIXIN_MEMBER then Some (codes "interface mixin A{")
     else (if r == NAMESPACE_MEMBER then Some (codes "namespace A{") else None)))
+front_of Today r =
+    if r == TODAY_INTERFACE_MEMBER then Some (codes "interface A{")
+    else (if r == TODAY_DICTIONARY_MEMBER then Some (codes "dictionary A{")
+    else (if r == TODAY_MIXIN_MEMBER then Some (codes "interface mixin A{")
+    else (if r == TODAY_NAMESPACE_MEMBER then Some (codes "namespace A{") else None)))
 
 -- the sign of rule r, if it is one that a body or a definition may lack
 abbrev pub sign_of : ℕ → Option (List ℕ)
@@ -68,9 +76,9 @@ abbrev pub shift_of : Part → List ℕ → Shift
 shift_of part front = record { front = length front; start = part.start; count = part.end - part.start }
 
 -- of a member, what is said where it is read as the only one of a definition that begins so
-pub record IsSaidInBody (raw : List ℕ) (part : Part) (front : List ℕ) (refusal : Refusal) : Type 0 where
+pub record IsSaidInBody (dialect : Dialect) (raw : List ℕ) (part : Part) (front : List ℕ) (refusal : Refusal) : Type 0 where
   pub said : Refusal
-  pub is_said : IsSaidFrom (front ++ (slice_range raw part.start part.end ++ codes "};")) 0 said
+  pub is_said : IsSaidFromIn dialect (front ++ (slice_range raw part.start part.end ++ codes "};")) 0 said
   pub moved : IsMoved (shift_of part front) said refusal
 
 -- a sign alone is expected at a place; a hint of what was said stays, if that is said of the place
@@ -94,17 +102,21 @@ IsSaidBy None said start refusal = IsSaidOf said start refusal
 
 -- of anything except for a member, what is said where its definition is read up to the end of the
 -- part
-pub record IsSaidInDefinition (raw : List ℕ) (part : Part) (refusal : Refusal) : Type 0 where
+pub record IsSaidInDefinition (dialect : Dialect) (raw : List ℕ) (part : Part) (refusal : Refusal) : Type 0 where
   pub said : Refusal
-  pub is_said : IsSaidFrom (slice_range raw 0 part.end) part.definition said
+  pub is_said : IsSaidFromIn dialect (slice_range raw 0 part.end) part.definition said
   pub by : IsSaidBy (missing_sign part) said part.start refusal
 
 -- by the front of the definition that a member is read in, if it is a member
-abbrev pub IsSaidBehind : Option (List ℕ) → List ℕ → Part → Refusal → Type 0
-IsSaidBehind (Some front) raw part refusal = IsSaidInBody raw part front refusal
-IsSaidBehind None raw part refusal = IsSaidInDefinition raw part refusal
+abbrev pub IsSaidBehind : Dialect → Option (List ℕ) → List ℕ → Part → Refusal → Type 0
+IsSaidBehind dialect (Some front) raw part refusal = IsSaidInBody dialect raw part front refusal
+IsSaidBehind dialect None raw part refusal = IsSaidInDefinition dialect raw part refusal
 
--- why a part is unread
-pub record IsPartRefusal (raw : List ℕ) (part : Part) (refusal : Refusal) : Type 0 where
+-- why a part is unread by the dialect's rules
+pub record IsPartRefusalIn (dialect : Dialect) (raw : List ℕ) (part : Part) (refusal : Refusal) : Type 0 where
   pub unread : IsUnread raw part
-  pub said : IsSaidBehind (front_of part.rule) raw part refusal
+  pub said : IsSaidBehind dialect (front_of dialect part.rule) raw part refusal
+
+-- by weedle2's
+abbrev pub IsPartRefusal : List ℕ → Part → Refusal → Type 0
+IsPartRefusal = IsPartRefusalIn Weedle2

@@ -2,7 +2,7 @@
 
 ghost use Rattle.std.specs.Prelude.{◌≡◌, ◌≤◌, ◌+◌, ◌*◌, length, true, All, IfOk};
 ghost use Rattle.std.specs.Bool.{OnFalse};
-ghost use Rattle.weedle_grammar.specs.written.Bound.{rule_count};
+ghost use Rattle.weedle_grammar.specs.written.Bound.{table_count};
 ghost use Rattle.weedle_recovery.specs.Counts.{AreStepsOf};
 ghost use Rattle.weedle_recovery.specs.Recovery.{AreParts, roots_of, IsDefinition};
 ghost use Rattle.weedle_syntax.specs.Syntax.{AreTrees, IsWhole};
@@ -11,7 +11,7 @@ use crate::reading::Reading;
 use crate::recovered::{Recovered, divided};
 use std::alloc::{AllocError, Global};
 use weedle_rules::{Ends, READS};
-use weedle_syntax::Limits;
+use weedle_syntax::{Dialect, Limits};
 
 /// The parts of a text, and what was tried for them.
 #[derive(Drop)]
@@ -49,12 +49,12 @@ pub fn recover_counted(alloc: Global, raw: &str) -> Result<Counted, AllocError>
 
     // Only a table has cells, and each is worked out once.
     ensures none { IfOk result (λ c. OnFalse c.by_table (c.workings ≡ 0)) }
-    ensures cells { IfOk result (λ c. c.workings ≤ (length raw.now + 1) * rule_count) }
+    ensures cells { IfOk result (λ c. c.workings ≤ (length raw.now + 1) * table_count) }
     ensures reads { IfOk result (λ c. c.reads ≤ READS * c.workings) }
 {
     let mut limits = Limits::of_length(raw.len());
     let most = limits.steps;
-    let text = Reading::by_descent(raw.as_bytes(), most);
+    let text = Reading::by_descent(raw.as_bytes(), most, Dialect::Weedle2);
     match divided(alloc, &text, &mut limits) {
         Ok(found) => Ok(Counted {
             found,
@@ -81,7 +81,7 @@ fn over_table(alloc: Global, raw: &str, steps: usize) -> Result<Counted, AllocEr
         (λ c. AreTrees raw.now (roots_of c.found.parts.items) c.found.nodes.items) }
     ensures steps { IfOk result (λ c. c.steps ≡ steps) }
     ensures table { IfOk result (λ c. c.by_table ≡ true) }
-    ensures cells { IfOk result (λ c. c.workings ≤ (length raw.now + 1) * rule_count) }
+    ensures cells { IfOk result (λ c. c.workings ≤ (length raw.now + 1) * table_count) }
     ensures reads { IfOk result (λ c. c.reads ≤ READS * c.workings) }
 {
     let ends = Ends::new(alloc, raw)?;

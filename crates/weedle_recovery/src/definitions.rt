@@ -1,19 +1,23 @@
-//! How definitions begin, and which rules are in front of a body.
+//! How definitions of weedle2's begin, which rules are in front of a body, and how a text is looked
+//! through for definitions of its dialect.
 
 ghost use Rattle.std.specs.Prelude.{◌≡◌, ◌≤◌, ◌<◌, true, false, length, IfOk, OnOk, IfSome, IfNone};
 ghost use Rattle.std.specs.List.{slice_get};
 ghost use Rattle.weedle_grammar.specs.written.Table.{row_of as the_row_of};
 ghost use Rattle.weedle_grammar.specs.written.Table.Symbols.{OPEN_BRACE};
-ghost use Rattle.weedle_recovery.specs.Stops.{Begins, FrontReads, beginnings, parts_in};
+ghost use Rattle.weedle_recovery.specs.Dialects.{beginnings, parts_in};
+ghost use Rattle.weedle_recovery.specs.Stops.{Begins, FrontReads};
 ghost use Rattle.weedle_rules.specs.Outcomes.{EndsAt};
 
+use crate::dialects::{count_in_front, part_in};
 use crate::reading::Reading;
+use crate::today::{TODAY_MEMBERS, TODAY_WITH_BODY};
 use std::alloc::{AllocError, Global};
 use weedle_grammar::{Row, Rule, row_of};
-use weedle_syntax::Limits;
+use weedle_syntax::{Dialect, Limits};
 
-/// The definitions that have a body of members.
-pub(crate) const WITH_BODY: [Rule; 9] = [
+/// The definitions of weedle2's that have a body of members.
+const WITH_BODY: [Rule; 9] = [
     Rule::INTERFACE_DEFINITION,
     Rule::DICTIONARY_DEFINITION,
     Rule::INTERFACE_MIXIN_DEFINITION,
@@ -25,12 +29,13 @@ pub(crate) const WITH_BODY: [Rule; 9] = [
     Rule::CALLBACK_INTERFACE_DEFINITION,
 ];
 
-/// How many kinds of definitions there are.
+/// How many kinds of definitions there are, by the rules of either dialect.
 const DEFINITIONS: usize = 14;
 
-/// The definition of a number, and how many parts at its front show that it begins: its keywords
-/// and, except for a typedef, its name. What could be read as another one comes before that one.
-fn beginning(number: usize) -> Option<(Rule, usize)>
+/// The definition of weedle2's of a number, and how many parts at its front show that it begins:
+/// its keywords and, except for a typedef, its name. What could be read as another one comes before
+/// that one.
+pub(crate) fn beginning(number: usize) -> Option<(Rule, usize)>
     ensures { result ≡ slice_get beginnings number }
 {
     match number {
@@ -62,6 +67,11 @@ pub(crate) fn member_of(definition: Rule) -> Rule {
             Rule::MIXIN_MEMBER
         }
         Rule::NAMESPACE_DEFINITION | Rule::PARTIAL_NAMESPACE_DEFINITION => Rule::NAMESPACE_MEMBER,
+        Rule::TODAY_DICTIONARY | Rule::TODAY_PARTIAL_DICTIONARY => Rule::TODAY_DICTIONARY_MEMBER,
+        Rule::TODAY_MIXIN | Rule::TODAY_PARTIAL_MIXIN => Rule::TODAY_MIXIN_MEMBER,
+        Rule::TODAY_NAMESPACE | Rule::TODAY_PARTIAL_NAMESPACE => Rule::TODAY_NAMESPACE_MEMBER,
+        Rule::TODAY_INTERFACE | Rule::TODAY_PARTIAL_INTERFACE | Rule::TODAY_CALLBACK_INTERFACE =>
+            Rule::TODAY_INTERFACE_MEMBER,
         _ => Rule::INTERFACE_MEMBER,
     }
 }
@@ -77,12 +87,13 @@ pub(crate) fn part_of(definition: Rule, number: usize) -> Option<Rule>
 }
 
 /// The rule of a number in front of the members of a definition with a body, the `{` included.
-pub(crate) fn front_rule(definition: Rule, number: usize) -> Option<Rule> {
+pub(crate) fn front_rule(dialect: Dialect, definition: Rule, number: usize) -> Option<Rule> {
     match row_of(definition) {
         Row::Seq(parts) => {
-            let many = parts.len().saturating_sub(2);
+            let all = parts.len().saturating_add(count_in_front(dialect));
+            let many = all.saturating_sub(2);
             if number < many {
-                parts.at(number)
+                part_in(dialect, definition, number)
             } else if number == many {
                 Some(Rule::OPEN_BRACE)
             } else {
@@ -106,12 +117,21 @@ pub(crate) fn opened(
     requires { place ≤ length text.now.text }
     ensures falls { OnOk result (limits.new.steps ≤ limits.old.steps) }
 {
-    for definition in WITH_BODY {
+    let definitions = with_body(text.dialect());
+    for definition in definitions {
         if opens(alloc, text, definition, place, limits)? {
             return Ok(Some(definition));
         }
     }
     Ok(None)
+}
+
+/// The definitions that have a body of members.
+fn with_body(dialect: Dialect) -> [Rule; 9] {
+    match dialect {
+        Dialect::Weedle2 => WITH_BODY,
+        Dialect::Today => TODAY_WITH_BODY,
+    }
 }
 
 /// Whether the front of a definition with a body is read at a place, up to its `{`; where that is
@@ -128,7 +148,7 @@ fn opens(
 {
     let mut at = place;
     for number in 0..MOST_PARTS {
-        let Some(rule) = front_rule(definition, number) else {
+        let Some(rule) = front_rule(text.dialect(), definition, number) else {
             return Ok(true);
         };
         match text.end_of(alloc, rule, at, limits)? {
@@ -152,8 +172,8 @@ pub(crate) fn begins(
     limits: &mut Limits,
 ) -> Result<bool, AllocError>
     requires { place ≤ length text.now.text }
-    ensures yes { IfOk result (λ is. is ≡ true → Begins text.now.text place) }
-    ensures no { IfOk result (λ is. is ≡ false → ¬ Begins text.now.text place) }
+    ensures yes { IfOk result (λ is. is ≡ true → Begins text.now.dialect text.now.text place) }
+    ensures no { IfOk result (λ is. is ≡ false → ¬ Begins text.now.dialect text.now.text place) }
     ensures falls { OnOk result (limits.new.steps ≤ limits.old.steps) }
 {
     match begun(alloc, text, place, limits)? {
@@ -170,12 +190,12 @@ pub(crate) fn begun(
     limits: &mut Limits,
 ) -> Result<Option<Rule>, AllocError>
     requires { place ≤ length text.now.text }
-    ensures some { IfOk result (λ o. IfSome o (λ d. Begins text.now.text place)) }
-    ensures none { IfOk result (λ o. IfNone o (¬ Begins text.now.text place)) }
+    ensures some { IfOk result (λ o. IfSome o (λ d. Begins text.now.dialect text.now.text place)) }
+    ensures none { IfOk result (λ o. IfNone o (¬ Begins text.now.dialect text.now.text place)) }
     ensures falls { OnOk result (limits.new.steps ≤ limits.old.steps) }
 {
     for number in 0..DEFINITIONS {
-        let Some(front) = beginning(number) else {
+        let Some(front) = text.beginning(number) else {
             return Ok(None);
         };
         if front_reads(alloc, text, front.0, front.1, place, limits)? {
@@ -195,13 +215,15 @@ fn front_reads(
     limits: &mut Limits,
 ) -> Result<bool, AllocError>
     requires { place ≤ length text.now.text }
-    ensures yes { IfOk result (λ is. is ≡ true → FrontReads text.now.text definition many place) }
-    ensures no { IfOk result (λ is. is ≡ false → ¬ FrontReads text.now.text definition many place) }
+    ensures yes { IfOk result
+        (λ is. is ≡ true → FrontReads text.now.dialect text.now.text definition many place) }
+    ensures no { IfOk result
+        (λ is. is ≡ false → ¬ FrontReads text.now.dialect text.now.text definition many place) }
     ensures falls { OnOk result (limits.new.steps ≤ limits.old.steps) }
 {
     let mut at = place;
     for number in 0..many {
-        let Some(rule) = part_of(definition, number) else {
+        let Some(rule) = text.part(definition, number) else {
             return Ok(true);
         };
         match text.end_of(alloc, rule, at, limits)? {
@@ -212,13 +234,21 @@ fn front_reads(
     Ok(true)
 }
 
-/// The rules of members.
+/// The rules of weedle2's of members.
 const MEMBERS: [Rule; 4] = [
     Rule::INTERFACE_MEMBER,
     Rule::DICTIONARY_MEMBER,
     Rule::MIXIN_MEMBER,
     Rule::NAMESPACE_MEMBER,
 ];
+
+/// The rules of members.
+fn members_of(dialect: Dialect) -> [Rule; 4] {
+    match dialect {
+        Dialect::Weedle2 => MEMBERS,
+        Dialect::Today => TODAY_MEMBERS,
+    }
+}
 
 /// The rule of a member that is read at a place.
 pub(crate) fn member_at(
@@ -230,7 +260,8 @@ pub(crate) fn member_at(
     requires { place ≤ length text.now.text }
     ensures falls { OnOk result (limits.new.steps ≤ limits.old.steps) }
 {
-    for member in MEMBERS {
+    let members = members_of(text.dialect());
+    for member in members {
         if text.reads(alloc, member, place, limits)? {
             return Ok(Some(member));
         }
@@ -275,7 +306,7 @@ pub(crate) fn failing_place(
 {
     let mut at = place;
     for number in 0..MOST_PARTS {
-        let Some(rule) = part_of(definition, number) else {
+        let Some(rule) = text.part(definition, number) else {
             return Ok(place);
         };
         match text.end_of(alloc, rule, at, limits)? {
@@ -303,6 +334,28 @@ pub(crate) fn ends_body(
                 return Ok(true);
             }
             begins(alloc, text, end, limits)
+        }
+        None => Ok(false),
+    }
+}
+
+/// Whether some docstrings are at a place, and behind them the `}` of a body.
+pub(crate) fn are_before_brace(
+    alloc: Global,
+    text: &Reading<'_>,
+    docs: Rule,
+    place: usize,
+    limits: &mut Limits,
+) -> Result<bool, AllocError>
+    requires { place ≤ length text.now.text }
+    ensures falls { OnOk result (limits.new.steps ≤ limits.old.steps) }
+{
+    match text.end_of(alloc, docs, place, limits)? {
+        Some(end) => {
+            if end == place {
+                return Ok(false);
+            }
+            text.reads(alloc, Rule::CLOSE_BRACE, end, limits)
         }
         None => Ok(false),
     }

@@ -17,15 +17,16 @@ ghost use Rattle.std.specs.Prelude.{
 };
 ghost use Rattle.weedle_recovery.specs.Counts.{IsCounted};
 ghost use Rattle.weedle_recovery.specs.Recovery.{
-  AreParts,
-  IsDefinition,
+  ArePartsIn,
+  IsDefinitionIn,
   IsDivided,
   IsPassed,
   roots_of,
   unread,
 };
 ghost use Rattle.weedle_rules.specs.Outcomes.{EndsAt, FailsAt};
-ghost use Rattle.weedle_syntax.specs.Syntax.{AreTrees, IsWhole};
+ghost use Rattle.weedle_syntax.specs.Dialects.{IsWholeIn};
+ghost use Rattle.weedle_syntax.specs.Syntax.{AreTrees};
 
 use crate::part::Part;
 use crate::reading::Reading;
@@ -53,21 +54,23 @@ impl Division {
         requires bare { self.old.nodes.items ≡ [] }
         requires front { self.old.definition ≡ 0 }
         requires most { self.old.limits.steps ≤ text.now.most }
-        ensures whole { IsWhole text.now.text
-            → OnOk result (All IsDefinition self.new.parts.items) }
+        ensures whole { IsWholeIn text.now.dialect text.now.text
+            → OnOk result (All (IsDefinitionIn text.now.dialect) self.new.parts.items) }
         ensures cover { OnOk result
-            (AreParts text.now.text 0 (length text.now.text) self.new.parts.items) }
+            (ArePartsIn text.now.dialect text.now.text 0 (length text.now.text)
+            self.new.parts.items) }
         ensures nodes { OnOk result
             (AreTrees text.now.text (roots_of self.new.parts.items) self.new.nodes.items) }
         ensures counted { OnOk result
             (IsCounted text.now self.new.parts.items self.new.limits.steps) }
     {
+        let definition = text.definition();
         let mut at = 0;
         while at < text.len() {
             self.definition = at;
-            match self.take(alloc, text, Rule::DEFINITION, at)? {
+            match self.take(alloc, text, definition, at)? {
                 Some(end) => at = end,
-                None => at = self.go_on(alloc, text, at)?,
+                None => at = self.go_past(alloc, text, at)?,
             }
         }
         Ok(())
@@ -81,13 +84,13 @@ impl Division {
         rule: Rule,
         place: usize,
     ) -> Result<Option<usize>, AllocError>
-        requires divided { IsDivided text.now.text self.old.parts.items self.old.nodes.items
+        requires divided { IsDivided text.now self.old.parts.items self.old.nodes.items
             self.old.definition place }
         requires counted { IsCounted text.now self.old.parts.items self.old.limits.steps }
         ensures read { IfOk result
             (λ o. IfSome o
             (λ end. EndsAt text.now.text rule place end
-            × IsDivided text.now.text self.new.parts.items self.new.nodes.items
+            × IsDivided text.now self.new.parts.items self.new.nodes.items
             self.new.definition end)) }
         ensures added { IfOk result
             (λ o. IfSome o
@@ -104,8 +107,10 @@ impl Division {
         ensures not { IfOk result
             (λ o. IfNone o
             (FailsAt text.now.text rule place
-            × IsDivided text.now.text self.new.parts.items self.new.nodes.items
+            × IsDivided text.now self.new.parts.items self.new.nodes.items
             self.new.definition place)) }
+        ensures kept { IfOk result
+            (λ o. IfNone o (self.new.parts.items ≡ self.old.parts.items)) }
         ensures after { IfOk result (λ o. IfSome o (λ end. place ≤ end)) }
         ensures within { IfOk result (λ o. IfSome o (λ end. end ≤ length text.now.text)) }
         ensures same { self.new.definition ≡ self.old.definition }
@@ -135,15 +140,16 @@ impl Division {
         start: usize,
         end: usize,
     ) -> Result<usize, AllocError>
-        requires divided { IsDivided text.now.text self.old.parts.items self.old.nodes.items
+        requires divided { IsDivided text.now self.old.parts.items self.old.nodes.items
             self.old.definition start }
         requires fails { FailsAt text.now.text rule start }
         requires order { start ≤ end }
         requires within { end ≤ length text.now.text }
-        requires passed { IsPassed text.now.text (unread rule start end self.old.definition) }
+        requires passed { IsPassed text.now.dialect text.now.text
+            (unread rule start end self.old.definition) }
         requires counted { IsCounted text.now self.old.parts.items self.old.limits.steps }
         ensures divided { IfOk result
-            (λ e. IsDivided text.now.text self.new.parts.items self.new.nodes.items
+            (λ e. IsDivided text.now self.new.parts.items self.new.nodes.items
             self.new.definition e) }
         ensures end { IfOk result (λ e. e ≡ end) }
         ensures same { self.new.definition ≡ self.old.definition }

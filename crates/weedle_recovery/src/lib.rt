@@ -15,20 +15,25 @@
 //! ```
 #![tactic(auto)]
 
+mod bodies;
 mod counted;
 mod definitions;
+mod dialects;
 mod division;
 mod moved;
 mod part;
+mod pieces;
 mod reading;
 mod recovered;
 mod recovery;
 mod refusal;
 mod sign;
 mod stops;
+mod today;
 mod token;
 
 pub use counted::{Counted, recover_counted};
 pub use part::Part;
-pub use recovered::{Recovered, recover};
-pub use refusal::refusal_of_part;
+pub use recovered::{Recovered, recover, recover_in};
+pub use refusal::{refusal_of_part, refusal_of_part_in};
+pub use weedle_refusal::{Dialect, DialectError};

@@ -1,10 +1,11 @@
-//! One rule at one place of a text, by descent or over a packrat table.
+//! One rule at one place of a text, by descent or over a packrat table, by the rules of a dialect.
 
 ghost use Rattle.std.specs.Prelude.{
   ◌≡◌,
   ◌≤◌,
   ◌<◌,
   ◌+◌,
+  ◌↔◌,
   length,
   drop,
   slice_index,
@@ -16,22 +17,28 @@ ghost use Rattle.std.specs.Prelude.{
   OnOk,
 };
 ghost use Rattle.std.specs.Bool.{OnFalse};
+ghost use Rattle.std.specs.List.{slice_get};
+ghost use Rattle.weedle_recovery.specs.Dialects.{beginnings_of, parts_of};
 ghost use Rattle.weedle_recovery.specs.Stops.{IsReadAt};
 ghost use Rattle.weedle_grammar.specs.Rows.{run_length, begins as begins_with_bytes};
 ghost use Rattle.weedle_rules.specs.Cells.{HasEnd};
 ghost use Rattle.weedle_rules.specs.Outcomes.{FailsAt};
 ghost use Rattle.weedle_syntax.specs.Laid.{LaysNode};
 ghost use Rattle.weedle_syntax.specs.Steps.{Spends, Steps};
+ghost use Rattle.weedle_syntax.specs.Dialects.{start_of, item_of, definition_of};
+ghost use Rattle.weedle_syntax.specs.declared.dialect.Dialect.TheVariants.{Weedle2};
 
+use crate::dialects::{beginning_in, part_in};
 use std::alloc::{AllocError, Global};
 use std::marker::Model;
 use weedle_grammar::scan::run;
 use weedle_grammar::{Class, Rule, leaf_ends};
 use weedle_rules::Ends;
 use weedle_starts::source::Source;
-use weedle_syntax::{Limits, Node, lay_by_descent, lay_over_table};
+use weedle_syntax::{Dialect, Limits, Node, lay_by_descent, lay_over_table};
 
-/// A text that is read at any place: by descent or, where it has one, over its packrat table.
+/// A text that is read at any place by the rules of a dialect: by descent or, where it has one,
+/// over its packrat table.
 #[derive(Drop)]
 pub(crate) struct Reading<'t> {
     bytes: &'t [u8],
@@ -39,6 +46,7 @@ pub(crate) struct Reading<'t> {
     ends: Option<&'t Ends<'t>>,
     /// How many rules descent may try.
     most: usize,
+    dialect: Dialect,
 }
 
 impl<'t> Model for Reading<'t> {
@@ -47,7 +55,12 @@ impl<'t> Model for Reading<'t> {
 
     ghost Value = { ReadingView };
 
-    ghost view = { λ r. record { text = r.bytes.now; by_table = is_some r.ends; most = r.most } };
+    ghost view = { λ r. record {
+      text = r.bytes.now;
+      by_table = is_some r.ends;
+      most = r.most;
+      dialect = r.dialect;
+    } };
 
     ghost invariant = { λ r. (r.source ≡ r.bytes.now)
         × IfSome r.ends (λ e. e.now.text ≡ r.bytes.now) };
@@ -55,28 +68,74 @@ impl<'t> Model for Reading<'t> {
 
 impl<'t> Reading<'t> {
     /// A text that is read by descent, which may try so many rules.
-    pub(crate) fn by_descent(bytes: &'t [u8], most: usize) -> Reading<'t>
-        ensures { result ≡ record { text = bytes.now; by_table = false; most = most } }
+    pub(crate) fn by_descent(bytes: &'t [u8], most: usize, dialect: Dialect) -> Reading<'t>
+        ensures { result
+            ≡ record { text = bytes.now; by_table = false; most = most; dialect = dialect } }
     {
         Reading {
             bytes,
             source: Source::new(bytes),
             ends: None,
             most,
+            dialect,
         }
     }
 
-    /// A text that is read over its packrat table.
+    /// A text that is read by weedle2's rules over its packrat table.
     pub(crate) fn over_table(bytes: &'t [u8], ends: &'t Ends<'t>) -> Reading<'t>
         requires { ends.now.text ≡ bytes.now }
-        ensures { result ≡ record { text = bytes.now; by_table = true; most = 0 } }
+        ensures { result
+            ≡ record { text = bytes.now; by_table = true; most = 0; dialect = Weedle2 } }
     {
         Reading {
             bytes,
             source: Source::new(bytes),
             ends: Some(ends),
             most: 0,
+            dialect: Dialect::Weedle2,
         }
+    }
+
+    /// The dialect.
+    pub(crate) fn dialect(&self) -> Dialect
+        ensures { result ≡ self.now.dialect }
+    {
+        self.dialect
+    }
+
+    /// The rule of a definition.
+    pub(crate) fn definition(&self) -> Rule
+        ensures { result ≡ definition_of self.now.dialect }
+    {
+        self.dialect.definition()
+    }
+
+    /// The rule of which a whole text has many.
+    pub(crate) fn item(&self) -> Rule
+        ensures { result ≡ item_of self.now.dialect }
+    {
+        self.dialect.item()
+    }
+
+    /// The kind of definition of a number, and how many parts at its front show that it begins.
+    pub(crate) fn beginning(&self, number: usize) -> Option<(Rule, usize)>
+        ensures { result ≡ slice_get (beginnings_of self.now.dialect) number }
+    {
+        beginning_in(self.dialect, number)
+    }
+
+    /// The rule of a number among the parts of a definition of this kind.
+    pub(crate) fn part(&self, definition: Rule, number: usize) -> Option<Rule>
+        ensures { result ≡ slice_get (parts_of self.now.dialect definition) number }
+    {
+        part_in(self.dialect, definition, number)
+    }
+
+    /// The rule of a whole text.
+    pub(crate) fn start(&self) -> Rule
+        ensures { result ≡ start_of self.now.dialect }
+    {
+        self.dialect.start()
     }
 
     /// How many bytes there are.
@@ -161,8 +220,8 @@ impl<'t> Reading<'t> {
         ensures falls { OnOk result (limits.new.steps ≤ limits.old.steps) }
     {
         match self.ends {
-            Some(ends) => Ok(ends.end(rule, place)),
-            None => {
+            Some(ends) if rule.is_of_table() => Ok(ends.cell(rule, place)),
+            _ => {
                 let mut nodes = Vec::new(alloc);
                 let end = lay_by_descent(&mut nodes, &self.source, rule, place, limits)?;
                 Ok(end)
@@ -210,7 +269,7 @@ impl<'t> Reading<'t> {
     {
         match self.ends {
             Some(ends) => lay_over_table(alloc, nodes, ends, rule, place),
-            None => lay_by_descent(nodes, &self.source, rule, place, limits),
+            _ => lay_by_descent(nodes, &self.source, rule, place, limits),
         }
     }
 }

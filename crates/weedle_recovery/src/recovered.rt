@@ -1,16 +1,33 @@
 //! The parts of a whole text.
 
-ghost use Rattle.std.specs.Prelude.{◌≡◌, ◌≤◌, length, All, IfOk};
+ghost use Rattle.std.specs.Prelude.{◌≡◌, ◌≤◌, length, All, IfErr, IfOk};
 ghost use Rattle.weedle_recovery.specs.Counts.{IsCounted};
-ghost use Rattle.weedle_recovery.specs.Recovery.{AreParts, roots_of, IsDefinition};
+ghost use Rattle.weedle_recovery.specs.Recovery.{
+  AreParts,
+  ArePartsIn,
+  roots_of,
+  IsDefinition,
+  IsDefinitionIn,
+};
+ghost use Rattle.weedle_refusal.specs.declared.error.DialectError.TheVariants.{Memory};
+ghost use Rattle.weedle_syntax.specs.Dialects.{IsWholeIn};
 ghost use Rattle.weedle_syntax.specs.Syntax.{AreTrees, IsWhole};
+ghost use Rattle.weedle_syntax.specs.declared.dialect.Dialect.TheVariants.{Weedle2};
 
 use crate::counted::recover_counted;
 use crate::division::Division;
 use crate::part::Part;
 use crate::reading::Reading;
 use std::alloc::{AllocError, Global};
-use weedle_syntax::{Limits, Node};
+use weedle_refusal::DialectError;
+use weedle_syntax::{Dialect, Limits, Node};
+
+/// How many rules descent may try for each byte by rules that have no packrat table to go on with,
+/// so that a text may be errors throughout.
+const STEPS_A_BYTE: usize = 256;
+
+/// How many more it may try, so that a short text may have long extended attributes.
+const MORE_STEPS: usize = 20_000;
 
 /// The parts of a text, and the nodes of those that are read.
 #[derive(Debug, Drop)]
@@ -50,6 +67,73 @@ pub fn recover(alloc: Global, raw: &str) -> Result<Recovered, AllocError>
     Ok(counted.found)
 }
 
+/// Divides a text into parts by the rules of a dialect.
+///
+/// For a text that is read whole, the parts are its definitions; by today's rules each docstring
+/// and each comment that no definition follows is one too, of the rule `TODAY_PIECE`. For
+/// `[Exposed=*] interface A { long x; /// d` and `};` in the next line the front is read by today's
+/// rules up to the `{`, `long x; ` is unread, and the docstring, `}` and `;` are read.
+///
+/// By weedle2's rules it costs what [`recover`] costs. By today's it reads by descent alone, in at
+/// most 256 steps for each byte and 20,000 more, 400 nodes deep. Where these limits are spent, as
+/// of some 50 `sequence<` that are open, the answer is [`DialectError::TooDeep`].
+pub fn recover_in(alloc: Global, raw: &str, dialect: Dialect) -> Result<Recovered, DialectError>
+    // For a text that is read whole, the parts are its definitions.
+    ensures whole { IsWholeIn dialect raw.now
+        → IfOk result (λ f. All (IsDefinitionIn dialect) f.parts.items) }
+
+    // The parts are the text, each behind the one before. A rule is read in each, or fails where it
+    // begins.
+    ensures cover { IfOk result
+        (λ f. ArePartsIn dialect raw.now 0 (length raw.now) f.parts.items) }
+    ensures nodes { IfOk result (λ f. AreTrees raw.now (roots_of f.parts.items) f.nodes.items) }
+
+    // No text is too deep for weedle2's rules.
+    ensures deep { dialect ≡ Weedle2 → IfErr result (λ e. e ≡ Memory) }
+{
+    match dialect {
+        Dialect::Weedle2 => recover_weedle2(alloc, raw),
+        Dialect::Today => recover_by_descent(alloc, raw, dialect),
+    }
+}
+
+/// The same by weedle2's rules.
+fn recover_weedle2(alloc: Global, raw: &str) -> Result<Recovered, DialectError>
+    ensures whole { IsWhole raw.now → IfOk result (λ f. All IsDefinition f.parts.items) }
+    ensures cover { IfOk result (λ f. AreParts raw.now 0 (length raw.now) f.parts.items) }
+    ensures nodes { IfOk result (λ f. AreTrees raw.now (roots_of f.parts.items) f.nodes.items) }
+    ensures memory { IfErr result (λ e. e ≡ Memory) }
+{
+    let found = recover(alloc, raw)?;
+    Ok(found)
+}
+
+/// The same by descent alone.
+fn recover_by_descent(alloc: Global, raw: &str, dialect: Dialect) -> Result<Recovered, DialectError>
+    ensures whole { IsWholeIn dialect raw.now
+        → IfOk result (λ f. All (IsDefinitionIn dialect) f.parts.items) }
+    ensures cover { IfOk result
+        (λ f. ArePartsIn dialect raw.now 0 (length raw.now) f.parts.items) }
+    ensures nodes { IfOk result (λ f. AreTrees raw.now (roots_of f.parts.items) f.nodes.items) }
+{
+    let steps = raw
+        .len()
+        .saturating_mul(STEPS_A_BYTE)
+        .saturating_add(MORE_STEPS);
+    let mut limits = Limits::of_length(raw.len());
+    limits.steps = steps;
+    let text = Reading::by_descent(raw.as_bytes(), steps, dialect);
+    match divided(alloc, &text, &mut limits) {
+        Ok(found) => Ok(found),
+        Err(_) => {
+            if limits.are_spent() {
+                return Err(DialectError::TooDeep);
+            }
+            Err(DialectError::Memory)
+        }
+    }
+}
+
 /// The parts of a text that is read by descent or over its table.
 pub(crate) fn divided(
     alloc: Global,
@@ -57,9 +141,10 @@ pub(crate) fn divided(
     limits: &mut Limits,
 ) -> Result<Recovered, AllocError>
     requires most { limits.old.steps ≤ text.now.most }
-    ensures whole { IsWhole text.now.text → IfOk result (λ f. All IsDefinition f.parts.items) }
-    ensures cover { IfOk result
-        (λ f. AreParts text.now.text 0 (length text.now.text) f.parts.items) }
+    ensures whole { IsWholeIn text.now.dialect text.now.text
+        → IfOk result (λ f. All (IsDefinitionIn text.now.dialect) f.parts.items) }
+    ensures cover { IfOk result (λ f. ArePartsIn text.now.dialect text.now.text
+        0 (length text.now.text) f.parts.items) }
     ensures nodes { IfOk result
         (λ f. AreTrees text.now.text (roots_of f.parts.items) f.nodes.items) }
     ensures counted { IfOk result (λ f. IsCounted text.now f.parts.items limits.new.steps) }

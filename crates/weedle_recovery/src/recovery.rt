@@ -1,15 +1,14 @@
 //! Panic mode: how the reading goes on where no definition is read.
 #![tactic(auto, using(crate::proofs::CountFacts::counted_still))]
 
-ghost use Rattle.std.specs.Prelude.{◌≡◌, ◌≤◌, ◌<◌, length, IfOk, OnOk, IfSome, IfNone};
-ghost use Rattle.weedle_grammar.specs.written.Table.Definitions.{DEFINITION};
+ghost use Rattle.std.specs.Prelude.{◌≡◌, ◌≤◌, ◌<◌, length, IfOk, OnOk};
 ghost use Rattle.weedle_recovery.specs.Counts.{IsCounted};
+ghost use Rattle.weedle_syntax.specs.Dialects.{definition_of};
 ghost use Rattle.weedle_recovery.specs.Recovery.{DefinitionPasses, IsDivided};
 ghost use Rattle.weedle_rules.specs.Outcomes.{FailsAt};
 
 use crate::definitions::{
-    MOST_PARTS, begins, begun, ends_body, failing_place, front_rule, member_behind, member_of,
-    opened, part_of,
+    MOST_PARTS, begun, failing_place, front_rule, member_behind, member_of, opened,
 };
 use crate::division::Division;
 use crate::reading::Reading;
@@ -25,14 +24,14 @@ impl Division {
         text: &Reading<'_>,
         place: usize,
     ) -> Result<usize, AllocError>
-        requires divided { IsDivided text.now.text self.old.parts.items self.old.nodes.items
+        requires divided { IsDivided text.now self.old.parts.items self.old.nodes.items
             self.old.definition place }
         requires definition { self.old.definition ≡ place }
-        requires fails { FailsAt text.now.text DEFINITION place }
+        requires fails { FailsAt text.now.text (definition_of text.now.dialect) place }
         requires unread { place < length text.now.text }
         requires counted { IsCounted text.now self.old.parts.items self.old.limits.steps }
         ensures divided { IfOk result
-            (λ e. IsDivided text.now.text self.new.parts.items self.new.nodes.items
+            (λ e. IsDivided text.now self.new.parts.items self.new.nodes.items
             self.new.definition e) }
         ensures onward { IfOk result (λ e. place < e) }
         ensures counted { OnOk result
@@ -52,14 +51,14 @@ impl Division {
         definition: Rule,
         place: usize,
     ) -> Result<usize, AllocError>
-        requires divided { IsDivided text.now.text self.old.parts.items self.old.nodes.items
+        requires divided { IsDivided text.now self.old.parts.items self.old.nodes.items
             self.old.definition place }
         requires definition { self.old.definition ≡ place }
-        requires fails { FailsAt text.now.text DEFINITION place }
+        requires fails { FailsAt text.now.text (definition_of text.now.dialect) place }
         requires unread { place < length text.now.text }
         requires counted { IsCounted text.now self.old.parts.items self.old.limits.steps }
         ensures divided { IfOk result
-            (λ e. IsDivided text.now.text self.new.parts.items self.new.nodes.items
+            (λ e. IsDivided text.now self.new.parts.items self.new.nodes.items
             self.new.definition e) }
         ensures onward { IfOk result (λ e. place < e) }
         ensures counted { OnOk result
@@ -75,14 +74,14 @@ impl Division {
 
     /// Passes over a definition whose front isn't read.
     fn pass(&mut self, alloc: Global, text: &Reading<'_>, place: usize) -> Result<usize, AllocError>
-        requires divided { IsDivided text.now.text self.old.parts.items self.old.nodes.items
+        requires divided { IsDivided text.now self.old.parts.items self.old.nodes.items
             self.old.definition place }
         requires definition { self.old.definition ≡ place }
-        requires fails { FailsAt text.now.text DEFINITION place }
+        requires fails { FailsAt text.now.text (definition_of text.now.dialect) place }
         requires unread { place < length text.now.text }
         requires counted { IsCounted text.now self.old.parts.items self.old.limits.steps }
         ensures divided { IfOk result
-            (λ e. IsDivided text.now.text self.new.parts.items self.new.nodes.items
+            (λ e. IsDivided text.now self.new.parts.items self.new.nodes.items
             self.new.definition e) }
         ensures onward { IfOk result (λ e. place < e) }
         ensures counted { OnOk result
@@ -109,11 +108,11 @@ impl Division {
         definition: Rule,
         place: usize,
     ) -> Result<usize, AllocError>
-        requires divided { IsDivided text.now.text self.old.parts.items self.old.nodes.items
+        requires divided { IsDivided text.now self.old.parts.items self.old.nodes.items
             self.old.definition place }
         requires counted { IsCounted text.now self.old.parts.items self.old.limits.steps }
         ensures divided { IfOk result
-            (λ e. IsDivided text.now.text self.new.parts.items self.new.nodes.items
+            (λ e. IsDivided text.now self.new.parts.items self.new.nodes.items
             self.new.definition e) }
         ensures after { IfOk result (λ e. place ≤ e) }
         ensures same { IfOk result (λ e. self.new.definition ≡ self.old.definition) }
@@ -122,7 +121,7 @@ impl Division {
     {
         let mut at = place;
         for number in 0..MOST_PARTS {
-            let Some(rule) = front_rule(definition, number) else {
+            let Some(rule) = front_rule(text.dialect(), definition, number) else {
                 return Ok(at);
             };
             match self.take(alloc, text, rule, at)? {
@@ -142,16 +141,16 @@ impl Division {
         place: usize,
         end: usize,
     ) -> Result<usize, AllocError>
-        requires divided { IsDivided text.now.text self.old.parts.items self.old.nodes.items
+        requires divided { IsDivided text.now self.old.parts.items self.old.nodes.items
             self.old.definition place }
-        requires fails { FailsAt text.now.text DEFINITION place }
+        requires fails { FailsAt text.now.text (definition_of text.now.dialect) place }
         requires definition { self.old.definition ≡ place }
         requires onward { place < end }
         requires within { end ≤ length text.now.text }
-        requires passes { DefinitionPasses text.now.text place end }
+        requires passes { DefinitionPasses text.now.dialect text.now.text place end }
         requires counted { IsCounted text.now self.old.parts.items self.old.limits.steps }
         ensures divided { IfOk result
-            (λ e. IsDivided text.now.text self.new.parts.items self.new.nodes.items
+            (λ e. IsDivided text.now self.new.parts.items self.new.nodes.items
             self.new.definition e) }
         ensures onward { IfOk result (λ e. place < e) }
         ensures counted { OnOk result
@@ -159,7 +158,7 @@ impl Division {
     {
         match begun(alloc, text, place, &mut self.limits)? {
             Some(definition) => self.leave_begun(alloc, text, definition, place, end),
-            None => self.leave(text, Rule::DEFINITION, place, end),
+            None => self.leave_definition(text, place, end),
         }
     }
 
@@ -173,16 +172,16 @@ impl Division {
         place: usize,
         end: usize,
     ) -> Result<usize, AllocError>
-        requires divided { IsDivided text.now.text self.old.parts.items self.old.nodes.items
+        requires divided { IsDivided text.now self.old.parts.items self.old.nodes.items
             self.old.definition place }
-        requires fails { FailsAt text.now.text DEFINITION place }
+        requires fails { FailsAt text.now.text (definition_of text.now.dialect) place }
         requires definition { self.old.definition ≡ place }
         requires onward { place < end }
         requires within { end ≤ length text.now.text }
-        requires passes { DefinitionPasses text.now.text place end }
+        requires passes { DefinitionPasses text.now.dialect text.now.text place end }
         requires counted { IsCounted text.now self.old.parts.items self.old.limits.steps }
         ensures divided { IfOk result
-            (λ e. IsDivided text.now.text self.new.parts.items self.new.nodes.items
+            (λ e. IsDivided text.now self.new.parts.items self.new.nodes.items
             self.new.definition e) }
         ensures onward { IfOk result (λ e. place < e) }
         ensures counted { OnOk result
@@ -192,7 +191,7 @@ impl Division {
         if place < failing && failing <= end {
             self.leave_rest(alloc, text, definition, place, end)
         } else {
-            self.leave(text, Rule::DEFINITION, place, end)
+            self.leave_definition(text, place, end)
         }
     }
 
@@ -206,16 +205,16 @@ impl Division {
         place: usize,
         end: usize,
     ) -> Result<usize, AllocError>
-        requires divided { IsDivided text.now.text self.old.parts.items self.old.nodes.items
+        requires divided { IsDivided text.now self.old.parts.items self.old.nodes.items
             self.old.definition place }
-        requires fails { FailsAt text.now.text DEFINITION place }
+        requires fails { FailsAt text.now.text (definition_of text.now.dialect) place }
         requires definition { self.old.definition ≡ place }
         requires onward { place < end }
         requires within { end ≤ length text.now.text }
-        requires passes { DefinitionPasses text.now.text place end }
+        requires passes { DefinitionPasses text.now.dialect text.now.text place end }
         requires counted { IsCounted text.now self.old.parts.items self.old.limits.steps }
         ensures divided { IfOk result
-            (λ e. IsDivided text.now.text self.new.parts.items self.new.nodes.items
+            (λ e. IsDivided text.now self.new.parts.items self.new.nodes.items
             self.new.definition e) }
         ensures onward { IfOk result (λ e. place < e) }
         ensures counted { OnOk result
@@ -223,7 +222,7 @@ impl Division {
     {
         let mut at = place;
         for number in 0..MOST_PARTS {
-            let Some(rule) = part_of(definition, number) else {
+            let Some(rule) = text.part(definition, number) else {
                 break;
             };
             match self.take(alloc, text, rule, at)? {
@@ -234,7 +233,31 @@ impl Division {
         if at > place {
             return Ok(at);
         }
-        self.leave(text, Rule::DEFINITION, at, end)
+        self.leave_definition(text, at, end)
+    }
+
+    /// Leaves a definition unread up to a place, at whose start none is read.
+    fn leave_definition(
+        &mut self,
+        text: &Reading<'_>,
+        start: usize,
+        end: usize,
+    ) -> Result<usize, AllocError>
+        requires divided { IsDivided text.now self.old.parts.items self.old.nodes.items
+            self.old.definition start }
+        requires fails { FailsAt text.now.text (definition_of text.now.dialect) start }
+        requires order { start ≤ end }
+        requires within { end ≤ length text.now.text }
+        requires passes { DefinitionPasses text.now.dialect text.now.text self.old.definition end }
+        requires counted { IsCounted text.now self.old.parts.items self.old.limits.steps }
+        ensures divided { IfOk result
+            (λ e. IsDivided text.now self.new.parts.items self.new.nodes.items
+            self.new.definition e) }
+        ensures end { IfOk result (λ e. e ≡ end) }
+        ensures counted { OnOk result
+            (IsCounted text.now self.new.parts.items self.new.limits.steps) }
+    {
+        self.leave(text, text.definition(), start, end)
     }
 
     /// Leaves the rest of a definition unread up to a place, whose rule fails behind the parts that
@@ -246,14 +269,14 @@ impl Division {
         start: usize,
         end: usize,
     ) -> Result<usize, AllocError>
-        requires divided { IsDivided text.now.text self.old.parts.items self.old.nodes.items
+        requires divided { IsDivided text.now self.old.parts.items self.old.nodes.items
             self.old.definition start }
         requires fails { FailsAt text.now.text rule start }
         requires within { end ≤ length text.now.text }
-        requires passes { DefinitionPasses text.now.text self.old.definition end }
+        requires passes { DefinitionPasses text.now.dialect text.now.text self.old.definition end }
         requires counted { IsCounted text.now self.old.parts.items self.old.limits.steps }
         ensures divided { IfOk result
-            (λ e. IsDivided text.now.text self.new.parts.items self.new.nodes.items
+            (λ e. IsDivided text.now self.new.parts.items self.new.nodes.items
             self.new.definition e) }
         ensures after { IfOk result (λ e. end ≤ e) }
         ensures counted { OnOk result
@@ -263,116 +286,6 @@ impl Division {
             self.leave(text, rule, start, end)
         } else {
             self.leave(text, rule, start, start)
-        }
-    }
-
-    /// Reads the members of a body and what closes it; what is no member is unread.
-    fn body(
-        &mut self,
-        alloc: Global,
-        text: &Reading<'_>,
-        member: Rule,
-        inside: usize,
-    ) -> Result<usize, AllocError>
-        requires divided { IsDivided text.now.text self.old.parts.items self.old.nodes.items
-            self.old.definition inside }
-        requires counted { IsCounted text.now self.old.parts.items self.old.limits.steps }
-        ensures divided { IfOk result
-            (λ e. IsDivided text.now.text self.new.parts.items self.new.nodes.items
-            self.new.definition e) }
-        ensures after { IfOk result (λ e. inside ≤ e) }
-        ensures counted { OnOk result
-            (IsCounted text.now self.new.parts.items self.new.limits.steps) }
-    {
-        let mut at = inside;
-        loop {
-            match self.take(alloc, text, member, at)? {
-                Some(end) => {
-                    if end == at {
-                        return Ok(at);
-                    }
-                    at = end;
-                }
-                None => match self.end_body(alloc, text, at)? {
-                    Some(end) => return Ok(end),
-                    None => {
-                        let end = stop_behind(
-                            alloc,
-                            text,
-                            &Goal::Member(member),
-                            at,
-                            &mut self.limits,
-                        )?;
-                        self.leave(text, member, at, end)?;
-                        if end == at || begins(alloc, text, end, &mut self.limits)? {
-                            return Ok(end);
-                        }
-                        at = end;
-                    }
-                },
-            }
-        }
-    }
-
-    /// Reads what closes a body, where no member is read. Where the body goes on, the answer is
-    /// None.
-    fn end_body(
-        &mut self,
-        alloc: Global,
-        text: &Reading<'_>,
-        place: usize,
-    ) -> Result<Option<usize>, AllocError>
-        requires divided { IsDivided text.now.text self.old.parts.items self.old.nodes.items
-            self.old.definition place }
-        requires counted { IsCounted text.now self.old.parts.items self.old.limits.steps }
-        ensures ended { IfOk result
-            (λ o. IfSome o
-            (λ e. IsDivided text.now.text self.new.parts.items self.new.nodes.items
-            self.new.definition e)) }
-        ensures after { IfOk result (λ o. IfSome o (λ e. place ≤ e)) }
-        ensures goes { IfOk result
-            (λ o. IfNone o
-            (IsDivided text.now.text self.new.parts.items self.new.nodes.items
-            self.new.definition place)) }
-        ensures counted { OnOk result
-            (IsCounted text.now self.new.parts.items self.new.limits.steps) }
-    {
-        if let Some(end) = self.take(alloc, text, Rule::CLOSE_BRACE, place)? {
-            let end = self.close(alloc, text, end)?;
-            return Ok(Some(end));
-        }
-        if place >= text.len() || begins(alloc, text, place, &mut self.limits)? {
-            let end = self.leave(text, Rule::CLOSE_BRACE, place, place)?;
-            return Ok(Some(end));
-        }
-        if ends_body(alloc, text, place, &mut self.limits)? {
-            self.leave(text, Rule::CLOSE_BRACE, place, place)?;
-            let end = self.close(alloc, text, place)?;
-            return Ok(Some(end));
-        }
-        Ok(None)
-    }
-
-    /// Reads the `;` behind a body.
-    fn close(
-        &mut self,
-        alloc: Global,
-        text: &Reading<'_>,
-        place: usize,
-    ) -> Result<usize, AllocError>
-        requires divided { IsDivided text.now.text self.old.parts.items self.old.nodes.items
-            self.old.definition place }
-        requires counted { IsCounted text.now self.old.parts.items self.old.limits.steps }
-        ensures divided { IfOk result
-            (λ e. IsDivided text.now.text self.new.parts.items self.new.nodes.items
-            self.new.definition e) }
-        ensures after { IfOk result (λ e. place ≤ e) }
-        ensures counted { OnOk result
-            (IsCounted text.now self.new.parts.items self.new.limits.steps) }
-    {
-        match self.take(alloc, text, Rule::SEMI_COLON, place)? {
-            Some(end) => Ok(end),
-            None => self.leave(text, Rule::SEMI_COLON, place, place),
         }
     }
 }

@@ -5,6 +5,7 @@ ghost use Rattle.std.specs.Prelude.{
   ◌≤◌,
   ◌↔◌,
   ◌++◌,
+  IfErr,
   IfNone,
   IfOk,
   IfSome,
@@ -15,19 +16,22 @@ ghost use Rattle.std.specs.Prelude.{
 };
 ghost use Rattle.weedle_recovery.specs.Refusals.{
   IsPartRefusal,
+  IsPartRefusalIn,
   IsSaidBehind,
   IsSaidInBody,
   IsSaidInDefinition,
   IsUnread,
   front_of as the_front_of,
 };
+ghost use Rattle.weedle_refusal.specs.declared.error.DialectError.TheVariants.{Memory};
+ghost use Rattle.weedle_syntax.specs.declared.dialect.Dialect.TheVariants.{Weedle2, Today};
 
 use crate::moved::{Shift, moved};
 use crate::part::Part;
 use crate::sign::{missing_sign, of_sign};
 use std::alloc::{AllocError, Global};
 use weedle_grammar::Rule;
-use weedle_refusal::{Refusal, refusal_at};
+use weedle_refusal::{Dialect, DialectError, Refusal, refusal_at_in};
 
 /// What ends the definition that a member is read in.
 const END: &str = "};";
@@ -41,7 +45,8 @@ const END: &str = "};";
 /// as one can be, all else behind what is read of its definition. Where a sign is missing, and the
 /// part has no byte, the sign alone is expected.
 ///
-/// It costs what [`refusal_at`] costs for the part, and for what is read of its definition.
+/// It costs what [`refusal_at`](weedle_refusal::refusal_at) costs for the part, and for what is
+/// read of its definition.
 pub fn refusal_of_part(alloc: Global, raw: &str, part: &Part) -> Result<Option<Refusal>, AllocError>
     ensures said { IfOk result (λ answer. IfSome answer (IsPartRefusal raw.now part.now)) }
     ensures none { IfOk result (λ answer. IfNone answer (¬ IsUnread raw.now part.now)) }
@@ -50,23 +55,54 @@ pub fn refusal_of_part(alloc: Global, raw: &str, part: &Part) -> Result<Option<R
     ensures within { IfOk result
         (λ answer. IfSome answer (λ refusal. refusal.place ≤ length raw.now)) }
 {
+    match refusal_of_part_in(alloc, raw, part, Dialect::Weedle2) {
+        Ok(answer) => Ok(answer),
+        Err(_) => Err(AllocError),
+    }
+}
+
+/// Why a part is unread by the rules of a dialect, as [`refusal_of_part`] says it.
+///
+/// For `interface A { async_iterable<long> };` and today's rules the part from 14 to 35 is an
+/// unread member: the reading comes to 35, where a `(` or a `;` would go on.
+///
+/// It costs what [`refusal_at_in`] costs for the part, and for what is read of its definition. By
+/// today's rules that may nest too deep for descent: then the answer is [`DialectError::TooDeep`].
+pub fn refusal_of_part_in(
+    alloc: Global,
+    raw: &str,
+    part: &Part,
+    dialect: Dialect,
+) -> Result<Option<Refusal>, DialectError>
+    ensures said { IfOk result
+        (λ answer. IfSome answer (IsPartRefusalIn dialect raw.now part.now)) }
+    ensures none { IfOk result (λ answer. IfNone answer (¬ IsUnread raw.now part.now)) }
+
+    // A refusal's place is one of the text.
+    ensures within { IfOk result
+        (λ answer. IfSome answer (λ refusal. refusal.place ≤ length raw.now)) }
+
+    // No part is too deep for weedle2's rules.
+    ensures deep { dialect ≡ Weedle2 → IfErr result (λ e. e ≡ Memory) }
+{
     if !is_unread(raw, part) {
         return Ok(None);
     }
-    let refusal = said_of(alloc, raw, part)?;
+    let refusal = said_of(alloc, raw, part, dialect)?;
     Ok(Some(refusal))
 }
 
 /// What is said of an unread part.
-fn said_of(alloc: Global, raw: &str, part: &Part) -> Result<Refusal, AllocError>
+fn said_of(alloc: Global, raw: &str, part: &Part, dialect: Dialect) -> Result<Refusal, DialectError>
     requires { IsUnread raw.now part.now }
-    ensures said { IfOk result
-        (λ refusal. IsSaidBehind (the_front_of part.now.rule) raw.now part.now refusal) }
+    ensures said { IfOk result (λ refusal.
+        IsSaidBehind dialect (the_front_of dialect part.now.rule) raw.now part.now refusal) }
     ensures within { IfOk result (λ refusal. refusal.place ≤ length raw.now) }
+    ensures deep { dialect ≡ Weedle2 → IfErr result (λ e. e ≡ Memory) }
 {
-    match front_of(part.rule) {
-        Some(front) => in_body(alloc, raw, part, front),
-        None => in_definition(alloc, raw, part),
+    match front_of(dialect, part.rule) {
+        Some(front) => in_body(alloc, raw, part, front, dialect),
+        None => in_definition(alloc, raw, part, dialect),
     }
 }
 
@@ -82,10 +118,20 @@ fn is_unread(raw: &str, part: &Part) -> bool
         && raw.is_char_boundary(part.end)
 }
 
-/// The shortest front of a definition whose body has members of a rule; None where it is no
-/// member's.
-fn front_of(rule: Rule) -> Option<&'static str>
-    ensures { option_map (λ front. front.now) result ≡ the_front_of rule }
+/// The shortest front of a definition of the dialect whose body has members of a rule; None where
+/// it is no member's.
+fn front_of(dialect: Dialect, rule: Rule) -> Option<&'static str>
+    ensures { option_map (λ front. front.now) result ≡ the_front_of dialect rule }
+{
+    match dialect {
+        Dialect::Weedle2 => weedle2_front_of(rule),
+        Dialect::Today => today_front_of(rule),
+    }
+}
+
+/// The same by weedle2's rules.
+fn weedle2_front_of(rule: Rule) -> Option<&'static str>
+    ensures { option_map (λ front. front.now) result ≡ the_front_of Weedle2 rule }
 {
     match rule {
         Rule::INTERFACE_MEMBER => Some("interface A{"),
@@ -96,14 +142,34 @@ fn front_of(rule: Rule) -> Option<&'static str>
     }
 }
 
+/// The same by today's.
+fn today_front_of(rule: Rule) -> Option<&'static str>
+    ensures { option_map (λ front. front.now) result ≡ the_front_of Today rule }
+{
+    match rule {
+        Rule::TODAY_INTERFACE_MEMBER => Some("interface A{"),
+        Rule::TODAY_DICTIONARY_MEMBER => Some("dictionary A{"),
+        Rule::TODAY_MIXIN_MEMBER => Some("interface mixin A{"),
+        Rule::TODAY_NAMESPACE_MEMBER => Some("namespace A{"),
+        _ => None,
+    }
+}
+
 /// What is said of a member: it is read as the only one of a definition.
-fn in_body(alloc: Global, raw: &str, part: &Part, front: &str) -> Result<Refusal, AllocError>
+fn in_body(
+    alloc: Global,
+    raw: &str,
+    part: &Part,
+    front: &str,
+    dialect: Dialect,
+) -> Result<Refusal, DialectError>
     requires { IsUnread raw.now part.now }
-    ensures said { IfOk result (IsSaidInBody raw.now part.now front.now) }
+    ensures said { IfOk result (IsSaidInBody dialect raw.now part.now front.now) }
     ensures within { IfOk result (λ refusal. refusal.place ≤ length raw.now) }
+    ensures deep { dialect ≡ Weedle2 → IfErr result (λ e. e ≡ Memory) }
 {
     let text = between(alloc, front, &raw[part.start..part.end], END)?;
-    let said = refusal_at(alloc, text.as_str(), 0)?;
+    let said = refusal_at_in(alloc, text.as_str(), 0, dialect)?;
     Ok(moved(
         said,
         &Shift {
@@ -128,12 +194,18 @@ fn between(alloc: Global, front: &str, text: &str, end: &str) -> Result<String, 
 
 /// What is said of a definition, or of the rest of one: it is read from the front of the definition
 /// up to the end of the part.
-fn in_definition(alloc: Global, raw: &str, part: &Part) -> Result<Refusal, AllocError>
+fn in_definition(
+    alloc: Global,
+    raw: &str,
+    part: &Part,
+    dialect: Dialect,
+) -> Result<Refusal, DialectError>
     requires { IsUnread raw.now part.now }
-    ensures said { IfOk result (IsSaidInDefinition raw.now part.now) }
+    ensures said { IfOk result (IsSaidInDefinition dialect raw.now part.now) }
     ensures within { IfOk result (λ refusal. refusal.place ≤ length raw.now) }
+    ensures deep { dialect ≡ Weedle2 → IfErr result (λ e. e ≡ Memory) }
 {
-    let said = refusal_at(alloc, &raw[..part.end], part.definition)?;
+    let said = refusal_at_in(alloc, &raw[..part.end], part.definition, dialect)?;
     match missing_sign(part) {
         Some(sign) => of_sign(alloc, said, part.start, sign),
         None => {

@@ -1,12 +1,13 @@
 //! Signs that are missing.
 
-ghost use Rattle.std.specs.Prelude.{◌≡◌, IfOk, option_map};
+ghost use Rattle.std.specs.Prelude.{◌≡◌, IfErr, IfOk, option_map};
 ghost use Rattle.weedle_recovery.specs.Refusals.{IsOfSign, missing_sign as the_missing_sign};
+ghost use Rattle.weedle_refusal.specs.declared.error.DialectError.TheVariants.{Memory};
 
 use crate::part::Part;
 use std::alloc::{AllocError, Global};
 use weedle_grammar::Rule;
-use weedle_refusal::{Expected, Refusal};
+use weedle_refusal::{DialectError, Expected, Refusal};
 
 /// The sign that is missing at a part, or None where something else is unread.
 pub(crate) fn missing_sign(part: &Part) -> Option<&'static str>
@@ -30,11 +31,15 @@ pub(crate) fn of_sign(
     said: Refusal,
     place: usize,
     sign: &'static str,
-) -> Result<Refusal, AllocError>
-    ensures { IfOk result (IsOfSign said place sign.entry.now) }
+) -> Result<Refusal, DialectError>
+    ensures is { IfOk result (IsOfSign said place sign.entry.now) }
+    ensures memory { IfErr result (λ e. e ≡ Memory) }
 {
     let mut expected = Vec::new(alloc);
-    expected.push(Expected::Text(sign))?;
+    match expected.push(Expected::Text(sign)) {
+        Ok(()) => {}
+        Err(e) => return Err(AllocError::from(e).into()),
+    }
     let hint = if said.place == place { said.hint } else { None };
     Ok(Refusal {
         start: place,

@@ -51,7 +51,7 @@ pub(crate) fn stop_behind(
     limits: &mut Limits,
 ) -> Result<usize, AllocError>
     requires { place ≤ length text.now.text }
-    ensures passes { IfOk result (PassesTo text.now.text goal.now place) }
+    ensures passes { IfOk result (PassesTo text.now.dialect text.now.text goal.now place) }
     ensures within { IfOk result (λ end. end ≤ length text.now.text) }
     ensures after { IfOk result (λ end. place ≤ end) }
     ensures onward { IfOk result (λ end. place < length text.now.text → place < end) }
@@ -81,8 +81,10 @@ fn is_reached(
     limits: &mut Limits,
 ) -> Result<bool, AllocError>
     requires { token.now.at < length text.now.text }
-    ensures yes { IfOk result (λ is. is ≡ true → IsReached text.now.text goal.now token.now) }
-    ensures no { IfOk result (λ is. is ≡ false → ¬ IsReached text.now.text goal.now token.now) }
+    ensures yes { IfOk result
+        (λ is. is ≡ true → IsReached text.now.dialect text.now.text goal.now token.now) }
+    ensures no { IfOk result
+        (λ is. is ≡ false → ¬ IsReached text.now.dialect text.now.text goal.now token.now) }
     ensures falls { OnOk result (limits.new.steps ≤ limits.old.steps) }
 {
     if closes(text, goal, token) {
@@ -124,8 +126,10 @@ fn starts(
     limits: &mut Limits,
 ) -> Result<bool, AllocError>
     requires { place ≤ length text.now.text }
-    ensures yes { IfOk result (λ is. is ≡ true → Starts text.now.text goal.now place) }
-    ensures no { IfOk result (λ is. is ≡ false → ¬ Starts text.now.text goal.now place) }
+    ensures yes { IfOk result
+        (λ is. is ≡ true → Starts text.now.dialect text.now.text goal.now place) }
+    ensures no { IfOk result
+        (λ is. is ≡ false → ¬ Starts text.now.dialect text.now.text goal.now place) }
     ensures falls { OnOk result (limits.new.steps ≤ limits.old.steps) }
 {
     match *goal {
@@ -145,9 +149,11 @@ fn member_starts(
 ) -> Result<bool, AllocError>
     requires { place ≤ length text.now.text }
     ensures yes { IfOk result
-        (λ is. is ≡ true → IsReadAt text.now.text member place ⊎ Begins text.now.text place) }
+        (λ is. is ≡ true → IsReadAt text.now.text member place
+        ⊎ Begins text.now.dialect text.now.text place) }
     ensures no { IfOk result
-        (λ is. is ≡ false → ¬ (IsReadAt text.now.text member place ⊎ Begins text.now.text place)) }
+        (λ is. is ≡ false → ¬ (IsReadAt text.now.text member place
+        ⊎ Begins text.now.dialect text.now.text place)) }
     ensures falls { OnOk result (limits.new.steps ≤ limits.old.steps) }
 {
     if text.reads(alloc, member, place, limits)? {
@@ -168,7 +174,7 @@ fn start_of(
 ) -> Result<usize, AllocError>
     requires line { token.now.line ≤ token.now.at }
     requires within { token.now.at ≤ length text.now.text }
-    ensures ends { IfOk result (EndsBefore text.now.text goal.now token.now) }
+    ensures ends { IfOk result (EndsBefore text.now.dialect text.now.text goal.now token.now) }
     ensures after { IfOk result (λ end. token.now.line ≤ end) }
     ensures within { IfOk result (λ end. end ≤ token.now.at) }
     ensures falls { OnOk result (limits.new.steps ≤ limits.old.steps) }

@@ -6,7 +6,7 @@ use Rattle.weedle_grammar.specs.Meaning.{Piece, piece, ReadsSeq, seq_end, seq_fa
 use Rattle.weedle_grammar.specs.written.Table.{webidl, row_of}
 use Rattle.weedle_grammar.proofs.GrammarFacts.{at_boundary}
 use Rattle.weedle_rules.specs.Outcomes.{EndsAt}
-use Rattle.weedle_starts.specs.Tries.{TriesInTurn, TriesByChoice, RowTries, Tried, at_first, by}
+use Rattle.weedle_starts.specs.Tries.{TriesInTurn, TriesByChoice, RowTries, Tried, at_first, by, Leads, itself, on}
 
 module _ (text : List ℕ) (utf8 : IsUtf8 text) where
   to_end : (r p e : ℕ) → EndsAt text r p e → IsCharBoundary text p → IsCharBoundary text e
@@ -60,3 +60,8 @@ module _ (text : List ℕ) (utf8 : IsUtf8 text) where
   pub tried_boundary : (start : ℕ) → IsCharBoundary text start → {x q : ℕ} → Tried text start x q → IsCharBoundary text q
   tried_boundary start b {x} {q} (at_first s) = there q start s.1 b
   tried_boundary start b (by {r = r} {p = p} {x = x} {q = q} d t) = row_tries (row_of r) r p x q t (tried_boundary start b d)
+
+  -- the same of what is tried where a rule is read
+  pub led_boundary : {x q r p : ℕ} → Leads text x q r p → IsCharBoundary text p → IsCharBoundary text q
+  led_boundary {q = q} {p = p} (itself s) b = there q p s.1 b
+  led_boundary {r = r} {p = p} (on {y = y} {z = z} t l) b = led_boundary l (row_tries (row_of r) r p y z t b)

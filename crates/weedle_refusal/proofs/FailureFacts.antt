@@ -13,7 +13,7 @@ use Rattle.weedle_grammar.proofs.Inversion.{at_row}
 use Rattle.weedle_rules.proofs.RowTests.{row_passes}
 use Rattle.weedle_rules.specs.Outcomes.{FailsAt}
 use Rattle.weedle_starts.specs.Tries.{Tries, TriesInTurn, TriesByChoice, RowTries, Tried, at_first, by, Leads, itself, on, has_no_parts, IsUnmet}
-use Rattle.weedle_refusal.specs.Noted.{IsUnmetIn}
+use Rattle.weedle_refusal.specs.Diagnosis.{IsUnmetIn}
 use Rattle.weedle_starts.proofs.LaterFacts.{tries_later}
 
 -- a choice has an alternative, and what is repeated or separates takes a byte
@@ -148,4 +148,12 @@ led_on text (on m l) t = on m (led_on text l t)
 pub some_fails : (text : List ℕ) (r p : ℕ) → p ≤ length text → r < rule_count → FailsAt text r p → (x : ℕ) × (q : ℕ) × IsUnmetIn text r p x q
 some_fails text r p fits low f =
     let u = rule_fails text (λ x q. Leads text x q r p) (λ y z x q l m. led_on text l m) f refl (record { tried = itself (refl, refl); low = low; within = fits }) in
+    (u.rule, u.place, record { plain = u.plain; tried = u.tried; fails = u.fails })
+
+-- and where a rule of repetition is read
+pub some_led : (text : List ℕ) (s x start : ℕ) → s < rule_count → row_of s ≡ Many x → start ≤ length text → (r : ℕ) × (p : ℕ) × IsUnmetIn text s start r p
+some_led text s x start low is fits =
+    let o = has_outcome webidl text rank takes ranked s start fits in
+    let d = at_row is o.1 in
+    let u = many_ends text (λ y z. Leads text y z s start) (λ y z a b l m. led_on text l m) s d.1 is (record { tried = itself (refl, refl); low = low; within = fits }) in
     (u.rule, u.place, record { plain = u.plain; tried = u.tried; fails = u.fails })

@@ -5,15 +5,19 @@ use Rattle.weedle_grammar.specs.Rows.{Row, Seq, First, Opt, Many, ListOf, List1,
 use Rattle.weedle_grammar.specs.written.Table.{webidl, row_of}
 use Rattle.weedle_grammar.specs.written.Bound.{rule_count}
 use Rattle.weedle_grammar.specs.written.Table.Definitions.{DEFINITIONS}
-use Rattle.weedle_rules.specs.Cells.{HasEnd, cell_number}
+use Rattle.weedle_rules.specs.Cells.{HasEnd, turn_number}
 use Rattle.weedle_rules.specs.Outcomes.{EndsAt, FailsAt}
 use Rattle.weedle_grammar.proofs.Takes.{takes}
 use Rattle.weedle_grammar.proofs.Checked.{ranked}
-use Rattle.weedle_rules.proofs.RowEnds.{is_before, rule_ends, seq_ends, first_ends, opt_absent, opt_present, list_ends, list_goes, list1_ends, list1_goes, RowEnds, many_ends, many_fails, many_goes, tail_ends, tail_fails, tail_gives_back, tail_goes, ends_after, ends_inside}
+use Rattle.weedle_rules.proofs.RowEnds.{turn_before, rule_ends, seq_ends, first_ends, opt_absent, opt_present, list_ends, list_goes, list1_ends, list1_goes, RowEnds, many_ends, many_fails, many_goes, tail_ends, tail_fails, tail_gives_back, tail_goes, ends_after, ends_inside}
 use Rattle.weedle_rules.proofs.PartEnds.{Along, along_start, along_step, along_fails, along_ends, Trying, trying_start, first_fits, first_tries_on, first_fits_none}
 use Rattle.weedle_rules.proofs.OutcomeFacts.{it_ends, it_fails}
 use Rattle.weedle_starts.specs.Tries.{SameAttempt, TriesInTurn, TriesByChoice, TriesListed, RowTries, Tried, at_first, by, Leads, itself, on, TriesHere, has_no_parts, IsUnmet}
-use Rattle.weedle_refusal.specs.Noted.{IsUnmetIn, Notes, IsNoted}
+use Rattle.weedle_refusal.specs.Diagnosis.{IsUnmetBy, IsUnmetIn}
+use Rattle.weedle_syntax.specs.Dialects.{start_of}
+use Rattle.weedle_syntax.specs.declared.dialect.Dialect.{Dialect}
+use Rattle.weedle_syntax.specs.declared.dialect.Dialect.TheVariants.{Weedle2, Today}
+use Rattle.weedle_refusal.specs.Noted.{Notes, IsNoted}
 use Rattle.weedle_refusal.specs.declared.diagnose.noted.Furthest.{Furthest}
 use Rattle.weedle_refusal.proofs.AddingFacts.{Attempts}
 use Rattle.weedle_starts.proofs.LaterFacts.{tries_later}
@@ -26,10 +30,10 @@ pub has_now : {text : List ℕ} {r p : ℕ} {o now : Option ℕ} → o ≡ now �
 has_now {text} {r} {p} e h = subst (HasEnd text r p) e h
 
 -- what a rule tries is in the text, is a rule, and its cell comes before the rule's
-pub row_before : (text : List ℕ) {r p x q : ℕ} {row : Row} → row_of r ≡ row → p ≤ length text → r < rule_count → RowTries text row r p x q → (q ≤ length text) × (x < rule_count) × (cell_number (length text) x q < cell_number (length text) r p)
+pub row_before : (text : List ℕ) {r p x q : ℕ} {row : Row} → row_of r ≡ row → p ≤ length text → r < rule_count → RowTries text row r p x q → (q ≤ length text) × (x < rule_count) × (turn_number (length text) x q < turn_number (length text) r p)
 row_before text {r} {p} {x} {q} is fits low t =
     let l = tries_later text r p fits low x q (subst (λ w. RowTries text w r p x q) (sym is) t) in
-    (l.within, l.low, is_before p q x r (length text) l.after l.within l.low l.smaller)
+    (l.within, l.low, turn_before p q x r (length text) l.after l.within l.low l.smaller)
 
 module _ (text : List ℕ) (r p : ℕ) {row : Row} (is : row_of r ≡ row) where
   -- a row with parts fails by what it tries
@@ -114,7 +118,7 @@ module _ (text : List ℕ) (r p : ℕ) (parts : List ℕ) (is : row_of r ≡ Seq
   turning l = record { along = along_start webidl text takes ranked r p parts is l; left = set_out text old (TriesInTurn text parts p) }
 
   module _ {x : ℕ} {rest : List ℕ} {at : ℕ} {now : Furthest} (g : Turning text r p parts old (x ∷ rest) at now) where
-    pub part_before : p ≤ length text → r < rule_count → (at ≤ length text) × (x < rule_count) × (cell_number (length text) x at < cell_number (length text) r p)
+    pub part_before : p ≤ length text → r < rule_count → (at ≤ length text) × (x < rule_count) × (turn_number (length text) x at < turn_number (length text) r p)
     part_before fits low = row_before text is fits low (g.left.from x at (inl (refl, refl)))
 
     pub part_on : {new : Furthest} {e : ℕ} → Notes text (IsUnmetIn text x at) now new → HasEnd text x at (Some e) → Turning text r p parts old rest e new
@@ -144,7 +148,7 @@ module _ (text : List ℕ) (r p : ℕ) (parts : List ℕ) (is : row_of r ≡ Fir
   choosing = record { count = 0; trying = trying_start webidl text takes ranked r p parts is; left = set_out text old (TriesByChoice text parts p) }
 
   module _ {x : ℕ} {rest : List ℕ} {now : Furthest} (g : Choosing text r p parts old (x ∷ rest) now) where
-    pub choice_before : p ≤ length text → r < rule_count → (p ≤ length text) × (x < rule_count) × (cell_number (length text) x p < cell_number (length text) r p)
+    pub choice_before : p ≤ length text → r < rule_count → (p ≤ length text) × (x < rule_count) × (turn_number (length text) x p < turn_number (length text) r p)
     choice_before fits low = row_before text is fits low (g.left.from x p (inl (refl, refl)))
 
     pub choice_goes_on : {new : Furthest} → Notes text (IsUnmetIn text x p) now new → HasEnd text x p None → Choosing text r p parts old rest new
@@ -165,20 +169,20 @@ module _ (text : List ℕ) (r p : ℕ) (parts : List ℕ) (is : row_of r ≡ Fir
 
 -- options and lists of one kind and the other
 module _ (text : List ℕ) {r p y : ℕ} where
-  pub opt_before : row_of r ≡ Opt y → p ≤ length text → r < rule_count → (p ≤ length text) × (y < rule_count) × (cell_number (length text) y p < cell_number (length text) r p)
+  pub opt_before : row_of r ≡ Opt y → p ≤ length text → r < rule_count → (p ≤ length text) × (y < rule_count) × (turn_number (length text) y p < turn_number (length text) r p)
   opt_before is fits low = row_before text is fits low (refl, refl)
 
   module _ {t : ℕ} where
-    pub list_before : row_of r ≡ ListOf y t → p ≤ length text → r < rule_count → (p ≤ length text) × (y < rule_count) × (cell_number (length text) y p < cell_number (length text) r p)
+    pub list_before : row_of r ≡ ListOf y t → p ≤ length text → r < rule_count → (p ≤ length text) × (y < rule_count) × (turn_number (length text) y p < turn_number (length text) r p)
     list_before is fits low = row_before text is fits low (inl (refl, refl))
 
-    pub list_next : {q : ℕ} → row_of r ≡ ListOf y t → p ≤ length text → r < rule_count → HasEnd text y p (Some q) → (q ≤ length text) × (t < rule_count) × (cell_number (length text) t q < cell_number (length text) r p)
+    pub list_next : {q : ℕ} → row_of r ≡ ListOf y t → p ≤ length text → r < rule_count → HasEnd text y p (Some q) → (q ≤ length text) × (t < rule_count) × (turn_number (length text) t q < turn_number (length text) r p)
     list_next {q} is fits low h = row_before text is fits low (inr (q, it_ends h, (refl, refl)))
 
-    pub list1_before : row_of r ≡ List1 y t → p ≤ length text → r < rule_count → (p ≤ length text) × (y < rule_count) × (cell_number (length text) y p < cell_number (length text) r p)
+    pub list1_before : row_of r ≡ List1 y t → p ≤ length text → r < rule_count → (p ≤ length text) × (y < rule_count) × (turn_number (length text) y p < turn_number (length text) r p)
     list1_before is fits low = row_before text is fits low (inl (refl, refl))
 
-    pub list1_next : {q : ℕ} → row_of r ≡ List1 y t → p ≤ length text → r < rule_count → HasEnd text y p (Some q) → (q ≤ length text) × (t < rule_count) × (cell_number (length text) t q < cell_number (length text) r p)
+    pub list1_next : {q : ℕ} → row_of r ≡ List1 y t → p ≤ length text → r < rule_count → HasEnd text y p (Some q) → (q ≤ length text) × (t < rule_count) × (turn_number (length text) t q < turn_number (length text) r p)
     list1_next {q} is fits low h = row_before text is fits low (inr (q, it_ends h, (refl, refl)))
 
 module _ (text : List ℕ) (r p y : ℕ) where
@@ -229,7 +233,7 @@ module _ (text : List ℕ) (r y p : ℕ) (is : row_of r ≡ Many y) {old : Furth
   repeating l = record { after = omega arith; within = l; ends = λ e h. h; onward = λ new n. n }
 
   module _ {at : ℕ} {now : Furthest} (g : Repeating text r y p old at now) where
-    pub item_before : r < rule_count → (at ≤ length text) × (y < rule_count) × (cell_number (length text) y at < cell_number (length text) r p)
+    pub item_before : r < rule_count → (at ≤ length text) × (y < rule_count) × (turn_number (length text) y at < turn_number (length text) r p)
     item_before low =
         let b = row_before text is g.within low (inl (refl, refl)) in
         let a = g.after in
@@ -281,14 +285,14 @@ module _ (text : List ℕ) (r y s p : ℕ) (is : row_of r ≡ Tail y s) {old : F
   following l = record { after = omega arith; within = l; ends = λ e h. h; onward = λ new n. n }
 
   module _ {at : ℕ} {now : Furthest} (g : Following text r y s p old at now) where
-    pub separator_before : r < rule_count → (at ≤ length text) × (s < rule_count) × (cell_number (length text) s at < cell_number (length text) r p)
+    pub separator_before : r < rule_count → (at ≤ length text) × (s < rule_count) × (turn_number (length text) s at < turn_number (length text) r p)
     separator_before low =
         let b = row_before text is g.within low (inl (refl, refl)) in
         let a = g.after in
         let l = b.2 in
         (b.0, b.1, omega arith)
 
-    pub item_after : {e : ℕ} → r < rule_count → HasEnd text s at (Some e) → e ≢ at → (e ≤ length text) × (y < rule_count) × (cell_number (length text) y e < cell_number (length text) r p)
+    pub item_after : {e : ℕ} → r < rule_count → HasEnd text s at (Some e) → e ≢ at → (e ≤ length text) × (y < rule_count) × (turn_number (length text) y e < turn_number (length text) r p)
     item_after {e} low h d =
         let b = row_before text is g.within low (inr (e, it_ends h, d, inl (refl, refl))) in
         let a = g.after in
@@ -353,3 +357,12 @@ unmet_led text start x q u = record { plain = u.plain; tried = tried_led text st
 
 pub led_unmet : (text : List ℕ) (start x q : ℕ) → IsUnmetIn text DEFINITIONS start x q → IsUnmet text start x q
 led_unmet text start x q u = record { plain = u.plain; tried = led_tried text start (at_first (refl, refl)) u.tried; fails = u.fails }
+
+-- the same by the dialect's rules
+pub is_unmet_by : (dialect : Dialect) (text : List ℕ) (start x q : ℕ) → IsUnmetIn text (start_of dialect) start x q → IsUnmetBy dialect text start x q
+is_unmet_by Weedle2 text start x q u = led_unmet text start x q u
+is_unmet_by Today text start x q u = u
+
+pub by_unmet : (dialect : Dialect) (text : List ℕ) (start x q : ℕ) → IsUnmetBy dialect text start x q → IsUnmetIn text (start_of dialect) start x q
+by_unmet Weedle2 text start x q u = unmet_led text start x q u
+by_unmet Today text start x q u = u

@@ -2,7 +2,7 @@
 use Rattle.std.proofs.Common.{◌≡◌, ◌⊎◌, inl, inr, ℕ, ◌+◌, ◌-◌, ◌*◌, ◌/◌, ◌%◌, ◌<◌, ◌≤◌, List, length, refl, sym, subst, arith}
 use Rattle.std.specs.Prelude.{◌↔◌}
 use Rattle.std.proofs.lemmas.Bool.{cases_lt}
-use Rattle.weedle_grammar.specs.written.Bound.{rule_count}
+use Rattle.weedle_grammar.specs.written.Bound.{table_count}
 use Rattle.weedle_grammar.specs.written.Table.Definitions.{DEFINITIONS}
 use Rattle.weedle_rules.specs.Cells.{cell_number}
 use Rattle.weedle_starts.specs.Tries.{SameAttempt, Tries, Tried, at_first, by}
@@ -10,7 +10,7 @@ use Rattle.weedle_refusal.specs.Marks.{HasBit, IsSet, IsMarked, IsClear, Adds, A
 use Rattle.weedle_refusal.proofs.LaterFacts.{tries_in, tries_before}
 
 -- a cell is of one rule and one place
-same_cell : (n r p x q : ℕ) → r < rule_count → x < rule_count → p ≤ n → q ≤ n → cell_number n r p ≡ cell_number n x q → (r ≡ x) × (p ≡ q)
+same_cell : (n r p x q : ℕ) → r < table_count → x < table_count → p ≤ n → q ≤ n → cell_number n r p ≡ cell_number n x q → (r ≡ x) × (p ≡ q)
 same_cell n r p x q l m a b e = (omega arith, omega arith)
 
 -- a bit that is set is a mark
@@ -38,7 +38,7 @@ marking_start text start last old new e =
     }
 
 -- where no cell from this one on is set, all are closed
-pub marking_skip : (text : List ℕ) (start : ℕ) (words : List ℕ) (cell from : ℕ) → IsMarking text start words cell → ((other : ℕ) → from ≤ other → other < cell → other / rule_count ≤ length text → IsSet words other → ⊥) → IsMarking text start words from
+pub marking_skip : (text : List ℕ) (start : ℕ) (words : List ℕ) (cell from : ℕ) → IsMarking text start words cell → ((other : ℕ) → from ≤ other → other < cell → other / table_count ≤ length text → IsSet words other → ⊥) → IsMarking text start words from
 marking_skip text start words cell from g none = record {
   inside = g.inside;
   first = g.first;
@@ -77,17 +77,17 @@ marking_step text start old new cell r p g here e marked a = record {
     closes r' p' i l (inr k) x q t = absurd (let b : cell_number (length text) r' p' < cell_number (length text) r p = tries_before text r' p' here k in omega arith)
 
 -- the rule and the place of a cell
-pub cell_is : (n cell : ℕ) → cell / rule_count ≤ n → cell_number n (cell % rule_count) (n - cell / rule_count) ≡ cell
+pub cell_is : (n cell : ℕ) → cell / table_count ≤ n → cell_number n (cell % table_count) (n - cell / table_count) ≡ cell
 cell_is n cell h = omega arith
 
-pub cell_in : (last many cell : ℕ) → cell / rule_count ≤ last → cell < 64 * many → HasBit last many (cell % rule_count) (last - cell / rule_count)
+pub cell_in : (last many cell : ℕ) → cell / table_count ≤ last → cell < 64 * many → HasBit last many (cell % table_count) (last - cell / table_count)
 cell_in last many cell h l = let e = cell_is last cell h in record { low = omega arith; within = omega arith; laid = omega arith }
 
-pub step_at : (text : List ℕ) (start : ℕ) (old new : List ℕ) (last cell : ℕ) → last ≡ length text → IsMarking text start old (cell + 1) → cell < 64 * length old → cell / rule_count ≤ last → IsSet old cell
-    → Adds last old new (Tries text (cell % rule_count) (last - cell / rule_count)) → IsMarking text start new cell
+pub step_at : (text : List ℕ) (start : ℕ) (old new : List ℕ) (last cell : ℕ) → last ≡ length text → IsMarking text start old (cell + 1) → cell < 64 * length old → cell / table_count ≤ last → IsSet old cell
+    → Adds last old new (Tries text (cell % table_count) (last - cell / table_count)) → IsMarking text start new cell
 step_at text start old new last cell e g l =
-    let P : ℕ → Type 0 = λ n. cell / rule_count ≤ n → IsSet old cell → Adds n old new (Tries text (cell % rule_count) (n - cell / rule_count)) → IsMarking text start new cell in
-    subst P (sym e) (λ w s a. marking_step text start old new cell (cell % rule_count) (length text - cell / rule_count) g (cell_in (length text) (length old) cell w l) (cell_is (length text) cell w)
+    let P : ℕ → Type 0 = λ n. cell / table_count ≤ n → IsSet old cell → Adds n old new (Tries text (cell % table_count) (n - cell / table_count)) → IsMarking text start new cell in
+    subst P (sym e) (λ w s a. marking_step text start old new cell (cell % table_count) (length text - cell / table_count) g (cell_in (length text) (length old) cell w l) (cell_is (length text) cell w)
     (subst (IsSet old) (sym (cell_is (length text) cell w)) s) a)
 
 -- in the end all that is tried is marked

@@ -4,7 +4,8 @@ use Rattle.weedle_grammar.specs.written.Bound.{rule_count}
 use Rattle.weedle_grammar.specs.written.Table.{row_of}
 use Rattle.weedle_rules.specs.Outcomes.{FailsAt}
 use Rattle.weedle_starts.specs.Tries.{SameAttempt, TriesHere, has_no_parts}
-use Rattle.weedle_refusal.specs.Noted.{IsUnmetIn, IsPartOf, Notes, IsNoted}
+use Rattle.weedle_refusal.specs.Diagnosis.{IsUnmetIn}
+use Rattle.weedle_refusal.specs.Noted.{IsPartOf, Notes, IsNoted}
 use Rattle.weedle_refusal.specs.declared.diagnose.noted.Furthest.{Furthest}
 use Rattle.weedle_refusal.proofs.AddingFacts.{Attempts}
 use Rattle.weedle_refusal.proofs.FailureFacts.{some_fails}

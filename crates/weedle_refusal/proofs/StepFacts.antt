@@ -4,7 +4,8 @@ use Rattle.std.specs.Prelude.{IfSome}
 use Rattle.weedle_grammar.specs.Meaning.{Piece, ReadsSeq}
 use Rattle.weedle_grammar.specs.Rows.{Row, If}
 use Rattle.weedle_grammar.specs.written.Table.{webidl, row_of}
-use Rattle.weedle_grammar.specs.written.Table.Definitions.{DEFINITIONS}
+use Rattle.weedle_syntax.specs.Dialects.{start_of}
+use Rattle.weedle_syntax.specs.declared.dialect.Dialect.{Dialect}
 use Rattle.weedle_grammar.proofs.Takes.{takes}
 use Rattle.weedle_rules.specs.Cells.{HasEnd}
 use Rattle.weedle_rules.proofs.ConditionEnds.{Note, NoteEnds, noted, if_along_fails, if_along_ends}
@@ -12,7 +13,7 @@ use Rattle.weedle_rules.proofs.RowEnds.{pieces_end}
 use Rattle.weedle_syntax.specs.Steps.{RowSteps, Spends, Steps, TurnSteps, if_absent, if_fails, if_present}
 use Rattle.weedle_syntax.proofs.ConditionFacts.{gave_by}
 use Rattle.weedle_syntax.proofs.CountFacts.{Counting, count_part_fails, count_parts_end, spends_both, spends_so}
-use Rattle.weedle_refusal.specs.Descent.{AtMostSteps, DescentSteps, EachSteps, none, one_more}
+use Rattle.weedle_refusal.specs.Descent.{AtMostSteps, DescentSteps, DescentStepsIn, EachSteps, none, one_more}
 use Rattle.weedle_refusal.specs.declared.diagnose.diagnosis.Diagnosis.{Diagnosis}
 use Rattle.weedle_refusal.specs.declared.diagnose.noted.Furthest.{Furthest}
 use Rattle.weedle_refusal.proofs.ConditionFacts.{ends_so}
@@ -61,8 +62,9 @@ module _ (text : List ℕ) where
       (r ∷ o.0, record { taken = s.taken + o.1.taken; are = one_more s.are o.1.are refl; is = omega (arith, a, b) })
 
   -- both readings
-  pub count_both : {start p old mid new : ℕ} → Spends (Steps text DEFINITIONS start) old mid → Opening p mid new → Spends (DescentSteps text start p) old new
-  count_both {start} {p} {old} {mid} {new} s o =
+  pub count_both : (dialect : Dialect) {start p old mid new : ℕ} → Spends (Steps text (start_of dialect) start) old mid → Opening p mid new
+      → Spends (DescentStepsIn dialect text start p) old new
+  count_both dialect {start} {p} {old} {mid} {new} s o =
       let a = s.is in
       let b = o.1.is in
       record {

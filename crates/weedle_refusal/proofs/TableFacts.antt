@@ -7,6 +7,9 @@ use Rattle.std.proofs.lemmas.Str.{IsUtf8-from_ascii}
 use borrow.Author.Tests.{ltb-true}
 use Rattle.weedle_refusal.specs.Words.{Word, has, has_word, is_left_out, is_start, is_type_start, is_value_start, may_fail, named_word, own_word, row_word, word_for}
 use Rattle.weedle_refusal.specs.declared.starts.TheConstants.{NAMES, TYPES, TYPES_BUT_ANY, CONST_TYPES, DEFAULT_VALUES, CONST_VALUES}
+use Rattle.weedle_refusal.specs.declared.today_starts.TheConstants.{TODAY_TYPES, TODAY_TYPES_BUT_ANY, TODAY_CONST_TYPES, TODAY_DEFAULT_VALUES}
+use Rattle.weedle_syntax.specs.declared.dialect.Dialect.{Dialect}
+use Rattle.weedle_syntax.specs.declared.dialect.Dialect.TheVariants.{Weedle2, Today}
 use Rattle.weedle_grammar.proofs.Boundary.{are_ascii, is_safe}
 use Rattle.weedle_grammar.proofs.Checked.{safe}
 use Rattle.weedle_grammar.proofs.Entries.{all_pass, passes}
@@ -47,8 +50,8 @@ kind_or true w o h = refl
 kind_or false w o h = h
 
 -- it has a word, whatever else is unmet
-pub some_word : (rules : List ℕ) (r : ℕ) → has_word r ≡ true → is_some (word_for rules r) ≡ true
-some_word rules r h = kind_or (is_type_start rules r) _ _ (kind_or (is_value_start rules r) _ _ (kind_or (is_start rules NAMES.now r) _ _ (own_some r h)))
+pub some_word : (dialect : Dialect) (rules : List ℕ) (r : ℕ) → has_word r ≡ true → is_some (word_for dialect rules r) ≡ true
+some_word dialect rules r h = kind_or (is_type_start dialect rules r) _ _ (kind_or (is_value_start dialect rules r) _ _ (kind_or (is_start rules NAMES.now r) _ _ (own_some r h)))
 
 -- of a choice that is some word, its test or the other choice
 chosen : (b : Bool) (w : Word) (o : Option Word) → is_some (cond b (Some w) o) ≡ true → (b ≡ true) ⊎ (is_some o ≡ true)
@@ -110,27 +113,38 @@ named_fails r h = fails r (elim (chosen (eqb r NOT_NEXT_NAME) _ _ h) [
 own_said : (r : ℕ) → is_some (own_word r) ≡ true → has_word r ≡ true
 own_said r h = said (is_left_out r) (may_fail (row_of r)) (named_word r) (row_word (row_of r)) h (named_fails r) (by_row (row_of r))
 
-type_said : (rules : List ℕ) (r : ℕ) → is_type_start rules r ≡ true → has_word r ≡ true
-type_said rules r h = elim (one_of (is_start rules TYPES.now r) _ h) [
+type_said : (dialect : Dialect) (rules : List ℕ) (r : ℕ) → is_type_start dialect rules r ≡ true → has_word r ≡ true
+type_said Weedle2 rules r h = elim (one_of (is_start rules TYPES.now r) _ h) [
   | inl e ↦ started rules TYPES.now r refl e
   | inr h ↦ elim (one_of (is_start rules TYPES_BUT_ANY.now r) _ h) [
     | inl e ↦ started rules TYPES_BUT_ANY.now r refl e
     | inr e ↦ started rules CONST_TYPES.now r refl e
   ]
 ]
+type_said Today rules r h = elim (one_of (is_start rules TODAY_TYPES.now r) _ h) [
+  | inl e ↦ started rules TODAY_TYPES.now r refl e
+  | inr h ↦ elim (one_of (is_start rules TODAY_TYPES_BUT_ANY.now r) _ h) [
+    | inl e ↦ started rules TODAY_TYPES_BUT_ANY.now r refl e
+    | inr e ↦ started rules TODAY_CONST_TYPES.now r refl e
+  ]
+]
 
-value_said : (rules : List ℕ) (r : ℕ) → is_value_start rules r ≡ true → has_word r ≡ true
-value_said rules r h = elim (one_of (is_start rules DEFAULT_VALUES.now r) _ h) [
+value_said : (dialect : Dialect) (rules : List ℕ) (r : ℕ) → is_value_start dialect rules r ≡ true → has_word r ≡ true
+value_said Weedle2 rules r h = elim (one_of (is_start rules DEFAULT_VALUES.now r) _ h) [
   | inl e ↦ started rules DEFAULT_VALUES.now r refl e
+  | inr e ↦ started rules CONST_VALUES.now r refl e
+]
+value_said Today rules r h = elim (one_of (is_start rules TODAY_DEFAULT_VALUES.now r) _ h) [
+  | inl e ↦ started rules TODAY_DEFAULT_VALUES.now r refl e
   | inr e ↦ started rules CONST_VALUES.now r refl e
 ]
 
 -- what has a word may fail, and isn't left out
-pub word_said : (rules : List ℕ) (r : ℕ) → is_some (word_for rules r) ≡ true → has_word r ≡ true
-word_said rules r h = elim (chosen (is_type_start rules r) _ _ h) [
-  | inl e ↦ type_said rules r e
-  | inr h ↦ elim (chosen (is_value_start rules r) _ _ h) [
-    | inl e ↦ value_said rules r e
+pub word_said : (dialect : Dialect) (rules : List ℕ) (r : ℕ) → is_some (word_for dialect rules r) ≡ true → has_word r ≡ true
+word_said dialect rules r h = elim (chosen (is_type_start dialect rules r) _ _ h) [
+  | inl e ↦ type_said dialect rules r e
+  | inr h ↦ elim (chosen (is_value_start dialect rules r) _ _ h) [
+    | inl e ↦ value_said dialect rules r e
     | inr h ↦ elim (chosen (is_start rules NAMES.now r) _ _ h) [ inl e ↦ started rules NAMES.now r refl e | inr h ↦ own_said r h ]
   ]
 ]

@@ -5,12 +5,13 @@ use Rattle.weedle_grammar.specs.written.Table.{webidl, row_of}
 use Rattle.weedle_grammar.specs.written.Bound.{rule_count}
 use Rattle.weedle_grammar.proofs.Takes.{takes}
 use Rattle.weedle_grammar.proofs.Checked.{ranked}
-use Rattle.weedle_rules.specs.Cells.{HasEnd, cell_number}
+use Rattle.weedle_rules.specs.Cells.{HasEnd, turn_number}
 use Rattle.weedle_rules.proofs.RowEnds.{rule_ends}
 use Rattle.weedle_rules.proofs.ConditionEnds.{Note, NoteEnds, AlongIf, if_start, if_along_fails, if_along_ends, if_ends_none, if_ends_absent, if_ends_present}
 use Rattle.weedle_rules.proofs.OutcomeFacts.{it_ends}
 use Rattle.weedle_starts.specs.Tries.{SameAttempt, TriesInTurn, EndsWith, RowTries}
-use Rattle.weedle_refusal.specs.Noted.{IsUnmetIn, Notes}
+use Rattle.weedle_refusal.specs.Diagnosis.{IsUnmetIn}
+use Rattle.weedle_refusal.specs.Noted.{Notes}
 use Rattle.weedle_refusal.specs.declared.diagnose.noted.Furthest.{Furthest}
 use Rattle.weedle_refusal.proofs.AddingFacts.{Attempts}
 use Rattle.weedle_refusal.proofs.OutcomeFacts.{same_end, no_end}
@@ -32,7 +33,7 @@ module _ (text : List ℕ) (r k y p : ℕ) (parts : List ℕ) (is : row_of r ≡
   testing_start l = record { along = if_start webidl text takes ranked r k y p parts is l; left = set_out text old (RowTries text (If parts k y) r p) }
 
   module _ {x : ℕ} {rest : List ℕ} {note : Note webidl text} {at : ℕ} {now : Furthest} (g : Testing text r k y p parts old (x ∷ rest) note at now) where
-    pub testing_before : p ≤ length text → r < rule_count → (at ≤ length text) × (x < rule_count) × (cell_number (length text) x at < cell_number (length text) r p)
+    pub testing_before : p ≤ length text → r < rule_count → (at ≤ length text) × (x < rule_count) × (turn_number (length text) x at < turn_number (length text) r p)
     testing_before fits low = row_before text is fits low (g.left.from x at (inl (inl (refl, refl))))
 
     pub testing_fails : HasEnd text x at None → HasEnd text r p None
@@ -74,7 +75,7 @@ module _ (text : List ℕ) (r k y p : ℕ) (parts : List ℕ) (is : row_of r ≡
     behind_all : Testing text r k y p parts old [] (inr true) at now → EndsWith text parts k p at
     behind_all g = ends_so text parts k p at (present g)
 
-    pub present_before : Testing text r k y p parts old [] (inr true) at now → p ≤ length text → r < rule_count → (at ≤ length text) × (y < rule_count) × (cell_number (length text) y at < cell_number (length text) r p)
+    pub present_before : Testing text r k y p parts old [] (inr true) at now → p ≤ length text → r < rule_count → (at ≤ length text) × (y < rule_count) × (turn_number (length text) y at < turn_number (length text) r p)
     present_before g fits low = row_before text is fits low (inr (at, behind_all g, (refl, refl)))
 
     pub present_end : (o : Option ℕ) → Testing text r k y p parts old [] (inr true) at now → HasEnd text y at o → HasEnd text r p o

@@ -10,9 +10,10 @@ use Rattle.weedle_grammar.specs.declared.class.Class.TheVariants as class
 use Rattle.weedle_refusal.proofs.OnceFacts.{once_differ, once_from, once_to, given, giver}
 use Rattle.weedle_refusal.proofs.TableFacts.{some_word, word_said}
 use Rattle.weedle_refusal.specs.contracts.expected.ExpectedPartialEq.TheImpl.{ghosts}
-use Rattle.weedle_refusal.specs.Words.{AreSound, AreWords, IsEachOnce, IsSaid, Word, this_text, one_of, again, anew, has_word, word_for, word_view}
+use Rattle.weedle_refusal.specs.Words.{AreSound, AreWordsIn, IsEachOnce, IsSaid, Word, this_text, one_of, again, anew, has_word, word_for, word_view}
 use Rattle.weedle_refusal.specs.declared.expected.Expected.{Expected}
 use Rattle.weedle_refusal.specs.declared.expected.Expected.TheVariants as word
+use Rattle.weedle_syntax.specs.declared.dialect.Dialect.{Dialect}
 
 differ : false ≡ true → ⊥
 differ e = cc
@@ -135,19 +136,19 @@ lacking words w e c =
     let P : Expected → Type 0 = λ y. ghosts.eq y w ≡ true in
     differ (sym e ∙ list_any-from_Any (λ y. ghosts.eq y w) words (k, it, within, get_or_default words k it w within, equal_word it w same))
 
-module _ (rules : List ℕ) (r : ℕ) (old : List Expected) (w : Expected) (is : Some (word_view w) ≡ word_for rules r) (before : List Word) (once : IsEachOnce before (map word_view old)) where
+module _ (dialect : Dialect) (rules : List ℕ) (r : ℕ) (old : List Expected) (w : Expected) (is : Some (word_view w) ≡ word_for dialect rules r) (before : List Word) (once : IsEachOnce before (map word_view old)) where
   -- a word that is there stays
-  pub there : list_any (λ y. ghosts.eq y w) old ≡ true → IsEachOnce (before ++ filter_map (word_for rules) (r ∷ [])) (map word_view old)
+  pub there : list_any (λ y. ghosts.eq y w) old ≡ true → IsEachOnce (before ++ filter_map (word_for dialect rules) (r ∷ [])) (map word_view old)
   there e = rw (← is) (again once (found old w e))
 
   -- one that isn't there is pushed
   pub pushed : {T E : Type 0} (done : Result T E) (new : List Expected) {v : T} → list_any (λ y. ghosts.eq y w) old ≡ false → new ≡ (if is_ok done then old ++ w ∷ [] else old) → done ≡ Ok v
-      → IsEachOnce (before ++ filter_map (word_for rules) (r ∷ [])) (map word_view new)
+      → IsEachOnce (before ++ filter_map (word_for dialect rules) (r ∷ [])) (map word_view new)
   pushed (Ok u) new e n d = rw (← is, n, map-append) (anew once (lacking old w e))
   pushed (Err u) new e n d = cc
 
 -- from the words of all rules, what is said of them
-module _ (rules : List ℕ) (words : List Expected) (once : IsEachOnce (filter_map (word_for rules) rules) (map word_view words)) where
+module _ (dialect : Dialect) (rules : List ℕ) (words : List Expected) (once : IsEachOnce (filter_map (word_for dialect rules) rules) (map word_view words)) where
   -- an element of the words, by its place
   element : (k : ℕ) (d : Expected) → k < length words → Contains (map word_view words) (word_view (get_or words k d))
   element k d l =
@@ -160,21 +161,21 @@ module _ (rules : List ℕ) (words : List Expected) (once : IsEachOnce (filter_m
       let first : i < length words = omega arith in
       once_differ once i j (word_view d) before m (get_or-map word_view words i d (word_view d) first ∙ same ∙ sym (get_or-map word_view words j d (word_view d) within))
 
-  sound : AreSound rules words
+  sound : AreSound dialect rules words
   sound k d l =
       let w = get_or words k d in
-      let from = giver (word_for rules) rules (word_view w) (once_from once (word_view w) (element k d l)) in
-      let is : is_some (word_for rules from.0) ≡ true = ap is_some from.2 in
-      (from.0, from.1, word_said rules from.0 is, from.2)
+      let from = giver (word_for dialect rules) rules (word_view w) (once_from once (word_view w) (element k d l)) in
+      let is : is_some (word_for dialect rules from.0) ≡ true = ap is_some from.2 in
+      (from.0, from.1, word_said dialect rules from.0 is, from.2)
 
-  complete : (r : ℕ) → Contains rules r → has_word r ≡ true → IsSaid rules words r
+  complete : (r : ℕ) → Contains rules r → has_word r ≡ true → IsSaid dialect rules words r
   complete r among may =
-      let v = some_is (word_for rules r) (some_word rules r may) in
-      let c = once_to once v.0 (given (word_for rules) rules r v.0 among v.1) in
+      let v = some_is (word_for dialect rules r) (some_word dialect rules r may) in
+      let c = once_to once v.0 (given (word_for dialect rules) rules r v.0 among v.1) in
       let within : c.0 < length words = omega (arith, length-map words word_view, c.1) in
       let w = get_or words c.0 word.Type in
       let same : word_view w ≡ v.0 = sym (get_or-map word_view words c.0 word.Type v.0 within) ∙ c.2 in
       (c.0, w, within, get_or_default words c.0 w word.Type within, v.1 ∙ ap Some (sym same))
 
-  pub are_words : AreWords rules words
+  pub are_words : AreWordsIn dialect rules words
   are_words = record { are = once; once = apart; sound = sound; complete = complete }

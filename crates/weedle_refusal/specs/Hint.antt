@@ -1,9 +1,10 @@
--- What a hint says of a text whose definition at `start` is read up to `place` and no further.
+-- What a hint says of a text whose definition at `start` is read up to `place` and no further, by the rules of a dialect.
 use Rattle.std.specs.Prelude.{◌≡◌, ◌≤◌, ◌<◌, ◌+◌, ◌-◌, ◌⊎◌, ◌==◌, ◌||◌, ℕ, Bool, true, false, List, [], ◌++◌, ◌∷◌, length, max, take, drop, slice_index, slice_range, codes}
 use Rattle.std.specs.List.{list_any}
-use Rattle.weedle_refusal.specs.Diagnosis.{IsDiagnosis}
+use Rattle.weedle_refusal.specs.Diagnosis.{IsDiagnosisIn}
 use Rattle.weedle_grammar.specs.Rows.{Bytes, is_in, run_length}
 use Rattle.weedle_grammar.specs.declared.class.Class.TheVariants.{Letter, Name}
+use Rattle.weedle_grammar.specs.written.Bound.{table_count}
 use Rattle.weedle_grammar.specs.written.Table.{row_of}
 use Rattle.weedle_grammar.specs.written.Table.Trivia.{TRIVIA}
 use Rattle.weedle_refusal.specs.Inside.{IsOutside}
@@ -12,7 +13,9 @@ use Rattle.weedle_refusal.specs.declared.hint.Hint.{Hint}
 use Rattle.weedle_refusal.specs.declared.hint.Hint.TheVariants as hint
 use Rattle.weedle_rules.specs.Outcomes.{EndsAt}
 use Rattle.weedle_syntax.specs.Kinds.{has_letter}
-use Rattle.weedle_syntax.specs.Syntax.{IsWhole}
+use Rattle.weedle_syntax.specs.declared.dialect.Dialect.{Dialect}
+use Rattle.weedle_syntax.specs.declared.dialect.Dialect.TheVariants.{Weedle2}
+use Rattle.weedle_syntax.specs.Dialects.{IsWholeIn}
 
 -- these bytes are there
 abbrev pub StandAt : List ℕ → List ℕ → ℕ → Type 0
@@ -47,12 +50,12 @@ pub record Goes (text : List ℕ) : Type 0 where
 -- with this change the definition is read to its end: the text from `start` up to some end, behind
 -- the furthest place and what is changed, is then read whole, and behind it the text goes on with
 -- no sign that is left over
-pub record IsMended (raw : List ℕ) (start place at taken : ℕ) (bytes : List ℕ) : Type 0 where
+pub record IsMended (dialect : Dialect) (raw : List ℕ) (start place at taken : ℕ) (bytes : List ℕ) : Type 0 where
   pub end : ℕ
   pub text : List ℕ
   pub past : max place (at + taken) ≤ end
   pub changed : IsChanged raw start end at taken bytes text
-  pub whole : IsWhole text
+  pub whole : IsWholeIn dialect text
   pub goes : Goes (slice_range raw end (length raw))
 
 -- a `;` follows the one place, and the other right behind it
@@ -61,14 +64,14 @@ pub record EndsMember (raw : List ℕ) (at end : ℕ) : Type 0 where
   pub ends : StandAt (codes ";") raw (end - 1)
 
 -- the furthest place of the text leaves fewer bytes behind it than so many
-pub record LeavesLess (text : List ℕ) (left : ℕ) : Type 0 where
+pub record LeavesLess (dialect : Dialect) (text : List ℕ) (left : ℕ) : Type 0 where
   pub place : ℕ
   pub rules : List ℕ
-  pub diagnosed : IsDiagnosis text 0 place rules
+  pub diagnosed : IsDiagnosisIn dialect text 0 place rules
   pub less : length text - place < left
 
 -- with this change the definition is read further by more than the member that is changed: beyond a second `;` behind the furthest place and what is changed
-pub record ComesBeyond (raw : List ℕ) (start place at taken : ℕ) (bytes : List ℕ) : Type 0 where
+pub record ComesBeyond (dialect : Dialect) (raw : List ℕ) (start place at taken : ℕ) (bytes : List ℕ) : Type 0 where
   pub member : ℕ
   pub next : ℕ
   pub end : ℕ
@@ -76,15 +79,15 @@ pub record ComesBeyond (raw : List ℕ) (start place at taken : ℕ) (bytes : Li
   pub ends_member : EndsMember raw (max place (at + taken)) member
   pub ends_next : EndsMember raw member next
   pub changed : IsChanged raw start end at taken bytes text
-  pub beyond : LeavesLess text (end - next)
+  pub beyond : LeavesLess dialect text (end - next)
 
 -- the change helps
-abbrev pub Helps : List ℕ → ℕ → ℕ → ℕ → ℕ → List ℕ → Type 0
-Helps raw start place at taken bytes = IsMended raw start place at taken bytes ⊎ ComesBeyond raw start place at taken bytes
+abbrev pub Helps : Dialect → List ℕ → ℕ → ℕ → ℕ → ℕ → List ℕ → Type 0
+Helps dialect raw start place at taken bytes = IsMended dialect raw start place at taken bytes ⊎ ComesBeyond dialect raw start place at taken bytes
 
--- the bytes of a keyword: some rule reads just them, and a letter is among them
+-- the bytes of a keyword: some rule of weedle2's reads just them, and a letter is among them
 abbrev pub IsKeyword : List ℕ → Type 0
-IsKeyword bytes = (rule : ℕ) × (row_of rule ≡ Bytes bytes) × (has_letter bytes ≡ true)
+IsKeyword bytes = (rule : ℕ) × (rule < table_count) × (row_of rule ≡ Bytes bytes) × (has_letter bytes ≡ true)
 
 -- a word of so many bytes is there: letters, digits, `_` and `-`, and none of them on either side
 pub record IsWordAt (raw : List ℕ) (at taken : ℕ) : Type 0 where
@@ -165,16 +168,20 @@ abbrev pub byte_order_mark : List ℕ
 byte_order_mark = 239 ∷ 187 ∷ 191 ∷ []
 
 -- the hint is right
-abbrev pub IsHint : List ℕ → ℕ → ℕ → Hint → Type 0
-IsHint raw start place (hint.Keyword at taken keyword) = IsMistyped raw at taken keyword.now × Helps raw start place at taken keyword.now
-IsHint raw start place (hint.Missing at sign) = IsSign sign.now × Helps raw start place at 0 sign.now
-IsHint raw start place (hint.Extra at sign) = IsSign sign.now × StandAt sign.now raw at × Helps raw start place at (length sign.now) []
-IsHint raw start place (hint.WrongSign at found sign) = ArePair found.now sign.now × StandAt found.now raw at × Helps raw start place at (length found.now) sign.now
-IsHint raw start place (hint.WordOrder at taken next next_taken) = (words : List ℕ) × AreExchanged raw at taken next next_taken words × Helps raw start place at (next + next_taken - at) words
-IsHint raw start place (hint.Docstring at taken) = AreDocLines raw at (at + taken) × Helps raw start place at taken []
-IsHint raw start place (hint.OpenString at) = IsOpenString raw start place at
-IsHint raw start place (hint.SplitString at) = IsSplitString raw start place at
+abbrev pub IsHintIn : Dialect → List ℕ → ℕ → ℕ → Hint → Type 0
+IsHintIn dialect raw start place (hint.Keyword at taken keyword) = IsMistyped raw at taken keyword.now × Helps dialect raw start place at taken keyword.now
+IsHintIn dialect raw start place (hint.Missing at sign) = IsSign sign.now × Helps dialect raw start place at 0 sign.now
+IsHintIn dialect raw start place (hint.Extra at sign) = IsSign sign.now × StandAt sign.now raw at × Helps dialect raw start place at (length sign.now) []
+IsHintIn dialect raw start place (hint.WrongSign at found sign) = ArePair found.now sign.now × StandAt found.now raw at × Helps dialect raw start place at (length found.now) sign.now
+IsHintIn dialect raw start place (hint.WordOrder at taken next next_taken) = (words : List ℕ) × AreExchanged raw at taken next next_taken words × Helps dialect raw start place at (next + next_taken - at) words
+IsHintIn dialect raw start place (hint.Docstring at taken) = AreDocLines raw at (at + taken) × Helps dialect raw start place at taken []
+IsHintIn dialect raw start place (hint.OpenString at) = IsOpenString raw start place at
+IsHintIn dialect raw start place (hint.SplitString at) = IsSplitString raw start place at
 -- the reading comes no further than to the mark
-IsHint raw start place (hint.ByteOrderMark at) = (at ≡ place) × StandAt byte_order_mark raw at
+IsHintIn dialect raw start place (hint.ByteOrderMark at) = (at ≡ place) × StandAt byte_order_mark raw at
 -- trivia is all of the text
-IsHint raw start place hint.NoDefinitions = (start ≡ 0) × IsTrivia raw
+IsHintIn dialect raw start place hint.NoDefinitions = (start ≡ 0) × IsTrivia raw
+
+-- by weedle2's rules
+abbrev pub IsHint : List ℕ → ℕ → ℕ → Hint → Type 0
+IsHint = IsHintIn Weedle2

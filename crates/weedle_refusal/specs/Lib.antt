@@ -1,7 +1,7 @@
 pub mod Marks
 pub mod Ways
-pub mod Noted
 pub mod Diagnosis
+pub mod Noted
 pub mod Descent
 pub mod Position
 pub mod Lines

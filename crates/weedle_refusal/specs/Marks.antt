@@ -1,14 +1,14 @@
 -- Marks of rules at places: a bit for each, in the order in which a packrat table is filled.
 use Rattle.std.specs.Prelude.{◌≡◌, ◌⊎◌, ◌↔◌, ◌≤◌, ◌<◌, ◌+◌, ◌*◌, ◌-◌, ◌/◌, ◌%◌, ℕ, List, length, slice_index}
 use Rattle.std.specs.Int.{bit_at}
-use Rattle.weedle_grammar.specs.written.Bound.{rule_count}
+use Rattle.weedle_grammar.specs.written.Bound.{table_count}
 use Rattle.weedle_grammar.specs.written.Table.Definitions.{DEFINITIONS}
 use Rattle.weedle_rules.specs.Cells.{cell_number}
 use Rattle.weedle_starts.specs.Tries.{Tries, Tried}
 
 -- among so many words there is a bit of rule r at p, in a text whose last place is this one
 pub record HasBit (last many r p : ℕ) : Type 0 where
-  pub low : r < rule_count
+  pub low : r < table_count
   pub within : p ≤ last
   pub laid : cell_number last r p < 64 * many
 

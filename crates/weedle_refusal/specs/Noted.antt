@@ -3,15 +3,10 @@ use Rattle.std.specs.Prelude.{◌≡◌, ◌⊎◌, ◌↔◌, ◌≤◌, ◌<�
 use Rattle.weedle_grammar.specs.written.Table.{row_of}
 use Rattle.weedle_grammar.specs.written.Bound.{rule_count}
 use Rattle.weedle_rules.specs.Outcomes.{FailsAt}
-use Rattle.weedle_starts.specs.Tries.{Leads, IsUnmet, has_no_parts}
+use Rattle.weedle_starts.specs.Tries.{has_no_parts}
+use Rattle.weedle_refusal.specs.Diagnosis.{IsUnmetIn}
 use Rattle.weedle_refusal.specs.Marks.{IsSet}
 use Rattle.weedle_refusal.specs.declared.diagnose.noted.Furthest.{Furthest}
-
--- where rule r is read at p, rule x is tried at q; it has no parts and fails there
-pub record IsUnmetIn (text : List ℕ) (r p x q : ℕ) : Type 0 where
-  pub plain : has_no_parts (row_of x) ≡ true
-  pub tried : Leads text x q r p
-  pub fails : FailsAt text x q
 
 -- rule y fails at p, and what is unmet in it there is failing
 pub record IsPartOf (text : List ℕ) (failing : ℕ → ℕ → Type 0) (y p : ℕ) : Type 0 where
@@ -61,8 +56,8 @@ pub record AreOpened (text : List ℕ) (first : Furthest) (n : ℕ) (found : Fur
   pub none : (x : ℕ) → IsSet from.marks x → ⊥
   pub notes : Notes text (IsUnmetInMarked text first n) from found
 
--- where definitions are read from `start` on, the furthest place at which something is unmet, and exactly what is unmet there is marked
-pub record IsFurthestFrom (text : List ℕ) (start : ℕ) (found : Furthest) : Type 0 where
-  pub some : (r : ℕ) × IsUnmet text start r found.place
-  pub furthest : (r p : ℕ) → IsUnmet text start r p → p ≤ found.place
-  pub exact : (r : ℕ) → IsSet found.marks r ↔ IsUnmet text start r found.place
+-- where rule s is read at `start`, the furthest place at which something is unmet, and exactly what is unmet there is marked
+pub record IsFurthestFrom (text : List ℕ) (s start : ℕ) (found : Furthest) : Type 0 where
+  pub some : (r : ℕ) × IsUnmetIn text s start r found.place
+  pub furthest : (r p : ℕ) → IsUnmetIn text s start r p → p ≤ found.place
+  pub exact : (r : ℕ) → IsSet found.marks r ↔ IsUnmetIn text s start r found.place

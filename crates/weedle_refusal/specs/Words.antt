@@ -5,12 +5,15 @@ use Rattle.std.specs.Option.{option_or}
 use Rattle.weedle_refusal.specs.declared.expected.Expected.{Expected}
 use Rattle.weedle_refusal.specs.declared.expected.Expected.TheVariants as word
 use Rattle.weedle_refusal.specs.declared.starts.TheConstants.{NAMES, TYPES, TYPES_BUT_ANY, CONST_TYPES, DEFAULT_VALUES, CONST_VALUES}
+use Rattle.weedle_refusal.specs.declared.today_starts.TheConstants.{TODAY_TYPES, TODAY_TYPES_BUT_ANY, TODAY_CONST_TYPES, TODAY_DEFAULT_VALUES}
 use Rattle.weedle_grammar.specs.Rows.{Row, Bytes, OneOf, NotNext, Past}
 use Rattle.weedle_grammar.specs.declared.class.Class.{Class}
 use Rattle.weedle_grammar.specs.written.Table.{row_of}
 use Rattle.weedle_grammar.specs.written.Table.Keywords.{NOT_NEXT_NAME}
 use Rattle.weedle_grammar.specs.written.Table.Leaves.{PAST_LF}
 use Rattle.weedle_grammar.specs.written.Table.Trivia.{BYTES_LF, BYTES_SLASH_SLASH, BYTES_SLASH_STAR, NOT_NEXT_ANY, NOT_NEXT_SLASH, ONE_OF_BLANK, PAST_STAR_SLASH}
+use Rattle.weedle_syntax.specs.declared.dialect.Dialect.{Dialect}
+use Rattle.weedle_syntax.specs.declared.dialect.Dialect.TheVariants.{Weedle2, Today}
 
 -- what is said of a rule
 pub data Word : Type 0 where
@@ -46,13 +49,16 @@ has rules r = list_any (λ x. x == r) rules
 abbrev pub is_start : List ℕ → List ℕ → ℕ → Bool
 is_start rules starts r = has starts r && list_all (has rules) starts
 
--- the rule begins a type, and every start of one is among the rules: of any, of one that is neither `any` nor a union, or of a constant's
-abbrev pub is_type_start : List ℕ → ℕ → Bool
-is_type_start rules r = is_start rules TYPES.now r || (is_start rules TYPES_BUT_ANY.now r || is_start rules CONST_TYPES.now r)
+-- the rule begins a type of the dialect, and every start of one is among the rules: of any, of one that is neither `any` nor a union, or of a
+-- constant's
+abbrev pub is_type_start : Dialect → List ℕ → ℕ → Bool
+is_type_start Weedle2 rules r = is_start rules TYPES.now r || (is_start rules TYPES_BUT_ANY.now r || is_start rules CONST_TYPES.now r)
+is_type_start Today rules r = is_start rules TODAY_TYPES.now r || (is_start rules TODAY_TYPES_BUT_ANY.now r || is_start rules TODAY_CONST_TYPES.now r)
 
 -- the same of the value of a default or of a constant
-abbrev pub is_value_start : List ℕ → ℕ → Bool
-is_value_start rules r = is_start rules DEFAULT_VALUES.now r || is_start rules CONST_VALUES.now r
+abbrev pub is_value_start : Dialect → List ℕ → ℕ → Bool
+is_value_start Weedle2 rules r = is_start rules DEFAULT_VALUES.now r || is_start rules CONST_VALUES.now r
+is_value_start Today rules r = is_start rules TODAY_DEFAULT_VALUES.now r || is_start rules CONST_VALUES.now r
 
 -- what begins whitespace or a comment, and the LF of a line comment: they may be nearly everywhere,
 -- and aren't said
@@ -78,11 +84,11 @@ row_word _ = None
 abbrev pub own_word : ℕ → Option Word
 own_word r = if is_left_out r then None else option_or (named_word r) (row_word (row_of r))
 
--- the word for rule r where these rules are unmet: that of its kind where every start of the kind is unmet, and else its own
-abbrev pub word_for : List ℕ → ℕ → Option Word
-word_for rules r =
-    if is_type_start rules r then Some a_type
-    else (if is_value_start rules r then Some a_value
+-- the word for rule r where these rules of a dialect are unmet: that of its kind where every start of the kind is unmet, and else its own
+abbrev pub word_for : Dialect → List ℕ → ℕ → Option Word
+word_for dialect rules r =
+    if is_type_start dialect rules r then Some a_type
+    else (if is_value_start dialect rules r then Some a_value
     else (if is_start rules NAMES.now r then Some a_name else own_word r))
 
 -- the second list has what is in the first, each once, in the order in which it first is there
@@ -103,23 +109,27 @@ may_fail _ = false
 abbrev pub has_word : ℕ → Bool
 has_word r = not (is_left_out r) && may_fail (row_of r)
 
--- the word is that for rule r, where these rules are unmet
-abbrev pub IsWordFor : List ℕ → ℕ → Expected → Type 0
-IsWordFor rules r w = word_for rules r ≡ Some (word_view w)
+-- the word is that for rule r, where these rules of a dialect are unmet
+abbrev pub IsWordFor : Dialect → List ℕ → ℕ → Expected → Type 0
+IsWordFor dialect rules r w = word_for dialect rules r ≡ Some (word_view w)
 
 -- some word is that for rule r
-abbrev pub IsSaid : List ℕ → List Expected → ℕ → Type 0
-IsSaid rules words r = Any (IsWordFor rules r) words
+abbrev pub IsSaid : Dialect → List ℕ → List Expected → ℕ → Type 0
+IsSaid dialect rules words r = Any (IsWordFor dialect rules r) words
 
 -- each word is that for one of the rules, and for none that is left out
-abbrev pub AreSound : List ℕ → List Expected → Type 0
-AreSound rules words = All (λ w. (r : ℕ) × Contains rules r × (has_word r ≡ true) × IsWordFor rules r w) words
+abbrev pub AreSound : Dialect → List ℕ → List Expected → Type 0
+AreSound dialect rules words = All (λ w. (r : ℕ) × Contains rules r × (has_word r ≡ true) × IsWordFor dialect rules r w) words
 
--- the words for these rules
-pub record AreWords (rules : List ℕ) (words : List Expected) : Type 0 where
+-- the words for these rules of a dialect
+pub record AreWordsIn (dialect : Dialect) (rules : List ℕ) (words : List Expected) : Type 0 where
   -- that for each rule in turn, each once: so in the order of the rules, and none that a rule has by itself where its kind is said of it
-  pub are : IsEachOnce (filter_map (word_for rules) rules) (map word_view words)
+  pub are : IsEachOnce (filter_map (word_for dialect rules) rules) (map word_view words)
   -- no word occurs twice
   pub once : AllPairs (λ v w. word_view v ≢ word_view w) words
-  pub sound : AreSound rules words
-  pub complete : (r : ℕ) → Contains rules r → has_word r ≡ true → IsSaid rules words r
+  pub sound : AreSound dialect rules words
+  pub complete : (r : ℕ) → Contains rules r → has_word r ≡ true → IsSaid dialect rules words r
+
+-- for these rules of weedle2's
+abbrev pub AreWords : List ℕ → List Expected → Type 0
+AreWords rules words = AreWordsIn Weedle2 rules words

@@ -26,4 +26,5 @@ mod unmet;
 mod ways;
 
 pub use diagnosis::{Diagnosis, diagnose_from};
-pub use quick::{diagnose_by_descent, diagnose_quick, diagnose_within};
+pub(crate) use quick::diagnose_within_in;
+pub use quick::{diagnose_by_descent, diagnose_in, diagnose_quick, diagnose_within};

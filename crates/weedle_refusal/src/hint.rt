@@ -1,7 +1,7 @@
 //! What would fix a refused definition, or what it lacks.
 
 ghost use Rattle.std.specs.Prelude.{◌≡◌, ◌≤◌, IfOk, IfSome, length};
-ghost use Rattle.weedle_refusal.specs.Hint.{IsHint};
+ghost use Rattle.weedle_refusal.specs.Hint.{IsHint, IsHintIn};
 ghost use Rattle.weedle_refusal.specs.Said.{hint_place};
 
 mod again;
@@ -33,6 +33,7 @@ use crate::hint::tokens::tokens_of;
 use crate::hint::unread::Unread;
 pub use said::write_hint;
 use std::alloc::{AllocError, Global};
+use weedle_syntax::Dialect;
 
 /// How many changes of a definition are tried at most.
 const MOST_TRIES: usize = 16;
@@ -163,20 +164,22 @@ pub fn hint_of(
         return Ok(None);
     };
     let (_, expected) = furthest_in(alloc, rest)?;
-    hint_among(alloc, raw, start, place, &expected)
+    hint_among(alloc, raw, start, place, &expected, Dialect::Weedle2)
 }
 
-/// The same as [`hint_of`], where it is known what would go on at the place.
+/// The same as [`hint_of`] by the rules of a dialect, where it is known what would go on at the
+/// place.
 pub(crate) fn hint_among(
     alloc: Global,
     raw: &str,
     start: usize,
     place: usize,
     expected: &[Expected],
+    dialect: Dialect,
 ) -> Result<Option<Hint>, AllocError>
     requires order { start ≤ place }
     requires within { place ≤ length raw.now }
-    ensures { IfOk result (λ hint. IfSome hint (IsHint raw.now start place)) }
+    ensures { IfOk result (λ hint. IfSome hint (IsHintIn dialect raw.now start place)) }
 {
     let tokens = tokens_of(alloc, raw, start, place)?;
     let unread = Unread {
@@ -185,9 +188,10 @@ pub(crate) fn hint_among(
         place,
         expected,
         tokens: &tokens,
+        dialect,
     };
     if let Some(hint) = fact(&unread) {
-        if is_fact(raw, start, place, hint) {
+        if is_fact(raw, start, place, hint, dialect) {
             return Ok(Some(hint));
         }
     }
@@ -208,8 +212,8 @@ fn first_that_helps(
     aim: Aim,
 ) -> Result<Option<Hint>, AllocError>
     requires { unread.now.place ≤ length unread.now.raw.now }
-    ensures { IfOk result
-        (λ hint. IfSome hint (IsHint unread.now.raw.now unread.now.start unread.now.place)) }
+    ensures { IfOk result (λ hint. IfSome hint
+        (IsHintIn unread.now.dialect unread.now.raw.now unread.now.start unread.now.place)) }
 {
     for hint in hints {
         if helps(trials, unread, *hint, aim)? {

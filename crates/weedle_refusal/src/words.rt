@@ -3,7 +3,7 @@
 ghost use Rattle.std.specs.Prelude.{◌≡◌, ◌++◌, ◌∷◌, [], List, IfOk, OnOk, map, option_map};
 ghost use Rattle.std.specs.List.{filter_map, list_all};
 ghost use Rattle.weedle_refusal.specs.Words.{
-  AreWords,
+  AreWordsIn,
   IsEachOnce,
   Word,
   has as among,
@@ -19,6 +19,9 @@ ghost use Rattle.weedle_refusal.specs.Words.{
 
 use crate::expected::Expected;
 use crate::starts::{CONST_TYPES, CONST_VALUES, DEFAULT_VALUES, NAMES, TYPES, TYPES_BUT_ANY};
+use crate::today_starts::{
+    TODAY_CONST_TYPES, TODAY_DEFAULT_VALUES, TODAY_TYPES, TODAY_TYPES_BUT_ANY,
+};
 use std::alloc::{AllocError, Global};
 use std::str;
 use weedle_grammar::grammar::keywords::NOT_NEXT_NAME;
@@ -28,25 +31,36 @@ use weedle_grammar::grammar::trivia::{
     PAST_STAR_SLASH,
 };
 use weedle_grammar::{Row, Rule, row_of};
+use weedle_syntax::Dialect;
 
-/// The words for these rules in their order, each once.
-pub(crate) fn words_of(alloc: Global, rules: &[Rule]) -> Result<Vec<Expected>, AllocError>
-    ensures { IfOk result (λ words. AreWords rules.now words.items) }
+/// The words for these rules of a dialect in their order, each once.
+pub(crate) fn words_of(
+    alloc: Global,
+    rules: &[Rule],
+    dialect: Dialect,
+) -> Result<Vec<Expected>, AllocError>
+    ensures { IfOk result (λ words. AreWordsIn dialect rules.now words.items) }
 {
     let mut words = Vec::new(alloc);
     for rule in rules {
-        add_word(&mut words, rules, *rule)?;
+        add_word(&mut words, rules, *rule, dialect)?;
     }
     Ok(words)
 }
 
 /// Adds the word for one of the rules, if it has one that isn't there yet.
-fn add_word(words: &mut Vec<Expected>, rules: &[Rule], rule: Rule) -> Result<(), AllocError>
+fn add_word(
+    words: &mut Vec<Expected>,
+    rules: &[Rule],
+    rule: Rule,
+    dialect: Dialect,
+) -> Result<(), AllocError>
     ensures { OnOk result ((before : List Word) → IsEachOnce before (map word_view words.old.items)
         → IsEachOnce
-        (before ++ filter_map (word_for rules.now) (rule ∷ [])) (map word_view words.new.items)) }
+        (before ++ filter_map (word_for dialect rules.now) (rule ∷ []))
+        (map word_view words.new.items)) }
 {
-    let Some(word) = word_among(rules, rule) else {
+    let Some(word) = word_among(rules, rule, dialect) else {
         return Ok(());
     };
     if !words.contains(&word) {
@@ -57,12 +71,12 @@ fn add_word(words: &mut Vec<Expected>, rules: &[Rule], rule: Rule) -> Result<(),
 
 /// The word for a rule among these: that of its kind where all starts of the kind are there, and
 /// else its own.
-fn word_among(rules: &[Rule], rule: Rule) -> Option<Expected>
-    ensures { option_map word_view result ≡ word_for rules.now rule }
+fn word_among(rules: &[Rule], rule: Rule, dialect: Dialect) -> Option<Expected>
+    ensures { option_map word_view result ≡ word_for dialect rules.now rule }
 {
-    if is_type(rules, rule) {
+    if is_type(rules, rule, dialect) {
         Some(Expected::Type)
-    } else if is_value(rules, rule) {
+    } else if is_value(rules, rule, dialect) {
         Some(Expected::Value)
     } else if is_start(rules, NAMES, rule) {
         Some(Expected::Name)
@@ -72,19 +86,35 @@ fn word_among(rules: &[Rule], rule: Rule) -> Option<Expected>
 }
 
 /// Whether the rule is a start of a type, and all of those are there.
-fn is_type(rules: &[Rule], rule: Rule) -> bool
-    ensures { result ≡ is_type_start rules.now rule }
+fn is_type(rules: &[Rule], rule: Rule, dialect: Dialect) -> bool
+    ensures { result ≡ is_type_start dialect rules.now rule }
 {
-    is_start(rules, TYPES, rule)
-        || is_start(rules, TYPES_BUT_ANY, rule)
-        || is_start(rules, CONST_TYPES, rule)
+    match dialect {
+        Dialect::Weedle2 => {
+            is_start(rules, TYPES, rule)
+                || is_start(rules, TYPES_BUT_ANY, rule)
+                || is_start(rules, CONST_TYPES, rule)
+        }
+        Dialect::Today => {
+            is_start(rules, TODAY_TYPES, rule)
+                || is_start(rules, TODAY_TYPES_BUT_ANY, rule)
+                || is_start(rules, TODAY_CONST_TYPES, rule)
+        }
+    }
 }
 
 /// Whether the rule is a start of a value, and all of those are there.
-fn is_value(rules: &[Rule], rule: Rule) -> bool
-    ensures { result ≡ is_value_start rules.now rule }
+fn is_value(rules: &[Rule], rule: Rule, dialect: Dialect) -> bool
+    ensures { result ≡ is_value_start dialect rules.now rule }
 {
-    is_start(rules, DEFAULT_VALUES, rule) || is_start(rules, CONST_VALUES, rule)
+    match dialect {
+        Dialect::Weedle2 => {
+            is_start(rules, DEFAULT_VALUES, rule) || is_start(rules, CONST_VALUES, rule)
+        }
+        Dialect::Today => {
+            is_start(rules, TODAY_DEFAULT_VALUES, rule) || is_start(rules, CONST_VALUES, rule)
+        }
+    }
 }
 
 /// Whether the rule is one of these starts, and all of them are among the rules.

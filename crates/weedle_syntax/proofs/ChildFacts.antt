@@ -5,13 +5,13 @@ use Rattle.weedle_grammar.specs.written.Bound.{rule_count}
 use Rattle.weedle_grammar.specs.Rows.{Row, Bytes, OneOf, NotNext, Run, Past, Seq, First, Opt, Many, ListOf, List1, Tail, If}
 use Rattle.weedle_grammar.specs.Entry.{are_rules}
 use Rattle.weedle_grammar.specs.written.Table.{webidl, row_of}
-use Rattle.weedle_rules.specs.Cells.{cell_number}
+use Rattle.weedle_rules.specs.Cells.{turn_number}
 use Rattle.weedle_grammar.proofs.Leaves.{both, one_of}
 use Rattle.weedle_grammar.proofs.Ranked.{is_low, low_parts, all_low, some_takes}
 use Rattle.weedle_grammar.proofs.Takes.{takes}
 use Rattle.weedle_grammar.proofs.Checked.{rank, ranked}
 use Rattle.weedle_grammar.proofs.Exists.{grows, stays_inside, advances}
-use Rattle.weedle_rules.proofs.RowEnds.{is_before}
+use Rattle.weedle_rules.proofs.RowEnds.{turn_before}
 use Rattle.weedle_rules.proofs.PartEnds.{below}
 use Rattle.weedle_rules.specs.Outcomes.{EndsAt}
 use Rattle.weedle_syntax.specs.declared.node.Node.{Node}
@@ -37,7 +37,7 @@ each_so P Q (n ∷ ns) f a = (f n a.0, each_so P Q ns f a.1)
 pub record IsChild (text : List ℕ) (r p d : ℕ) (n : Node) : Type 0 where
   pub low : n.rule < rule_count
   pub within : n.start ≤ length text
-  pub before : cell_number (length text) n.rule n.start < cell_number (length text) r p
+  pub before : turn_number (length text) n.rule n.start < turn_number (length text) r p
   pub depth_is : n.depth ≡ d
   pub reads : EndsAt text n.rule n.start n.end
 
@@ -81,7 +81,7 @@ module _ (text : List ℕ) (r p d : ℕ) (fits : p ≤ length text) (low : r < r
       record {
         low = omega arith;
         within = omega arith;
-        before = subst (λ x. cell_number (length text) x n.start < cell_number (length text) r p) (sym is) (subst (λ x. cell_number (length text) s x < cell_number (length text) r p) (sym at) (is_before p q s r (length text) a w l h));
+        before = subst (λ x. turn_number (length text) x n.start < turn_number (length text) r p) (sym is) (subst (λ x. turn_number (length text) s x < turn_number (length text) r p) (sym at) (turn_before p q s r (length text) a w l h));
         depth_is = i.depth_is;
         reads = subst (λ x. EndsAt text x n.start n.end) (sym is) (subst (λ x. EndsAt text s x n.end) (sym at) i.reads);
       }

@@ -7,10 +7,10 @@ use Rattle.weedle_grammar.specs.written.Bound.{rule_count}
 use Rattle.weedle_grammar.proofs.Takes.{takes}
 use Rattle.weedle_grammar.proofs.Checked.{ranked}
 use Rattle.weedle_grammar.proofs.Leaves.{both}
-use Rattle.weedle_rules.specs.Cells.{HasEnd, cell_number}
-use Rattle.weedle_rules.proofs.RowEnds.{is_before, rule_ends, pieces_end}
+use Rattle.weedle_rules.specs.Cells.{HasEnd, turn_number}
+use Rattle.weedle_rules.proofs.RowEnds.{turn_before, rule_ends, pieces_end}
 use Rattle.weedle_rules.proofs.PartEnds.{below}
-use Rattle.weedle_rules.proofs.ConditionEnds.{Note, NoteEnds, noted, AlongIf, if_start, if_known, if_along_fails, if_along_ends, if_ends_none, if_ends_absent, if_ends_present, if_next_low}
+use Rattle.weedle_rules.proofs.ConditionEnds.{Note, NoteEnds, noted, AlongIf, if_start, if_before, if_along_fails, if_along_ends, if_ends_none, if_ends_absent, if_ends_present, if_next_low}
 use Rattle.weedle_rules.proofs.OutcomeFacts.{it_ends}
 use Rattle.weedle_syntax.specs.declared.node.Node.{Node}
 use Rattle.weedle_syntax.specs.Parts.{AreInTurn, Gave}
@@ -38,8 +38,8 @@ module _ (text : List ℕ) (r k y p d : ℕ) (parts : List ℕ) (old : List Node
   pub testing_start : p ≤ length text → Testing text r k p d parts old parts (inl k) p old
   testing_start l = record { along = if_start webidl text takes ranked r k y p parts is l; inner = []; adds = none_added text old; onward = λ ns e a. a }
 
-  pub testing_before : (x : ℕ) (rest : List ℕ) (note : Note webidl text) (at : ℕ) (now : List Node) → Testing text r k p d parts old (x ∷ rest) note at now → x < rule_count → cell_number (length text) x at < cell_number (length text) r p
-  testing_before x rest note at now g l = if_known webidl text takes ranked r k p x at parts rest note g.along l
+  pub testing_before : (x : ℕ) (rest : List ℕ) (note : Note webidl text) (at : ℕ) (now : List Node) → Testing text r k p d parts old (x ∷ rest) note at now → x < rule_count → turn_number (length text) x at < turn_number (length text) r p
+  testing_before x rest note at now g l = if_before webidl text takes ranked r k p x at parts rest note g.along l
 
   pub testing_fails : (x : ℕ) (rest : List ℕ) (note : Note webidl text) (at : ℕ) (now : List Node) → Testing text r k p d parts old (x ∷ rest) note at now → HasEnd text x at None → HasEnd text r p None
   testing_fails x rest note at now g h = rule_ends is (if_ends_none webidl text parts k y p (if_along_fails webidl text takes r k p x at parts rest note g.along h))
@@ -77,11 +77,11 @@ module _ (text : List ℕ) (r k y p d : ℕ) (parts : List ℕ) (old : List Node
       more_added text g.inner (node y at e d ∷ []) old now new g.adds a,
     )
 
-    pub testing_next : Testing text r k p d parts old [] (inr true) at now → (at ≤ length text) × (y < rule_count) × (cell_number (length text) y at < cell_number (length text) r p)
+    pub testing_next : Testing text r k p d parts old [] (inr true) at now → (at ≤ length text) × (y < rule_count) × (turn_number (length text) y at < turn_number (length text) r p)
     testing_next g =
         let low : y < rule_count = below _ _ (both _ _ (row_named r is)).1 in
         let a = g.along in
-        (a.within, low, is_before p at y r (length text) a.after a.within low (λ s. if_next_low webidl text takes ranked r k y p at parts is (if_along_ends webidl text takes r k p at parts true a) a.after s))
+        (a.within, low, turn_before p at y r (length text) a.after a.within low (λ s. if_next_low webidl text takes ranked r k y p at parts is (if_along_ends webidl text takes r k p at parts true a) a.after s))
 
     pub testing_length : (note : Note webidl text) → Testing text r k p d parts old [] note at now → length old ≤ length now
     testing_length note g = added_length text g.inner old now g.adds

@@ -6,9 +6,9 @@ use Rattle.weedle_grammar.specs.written.Table.{webidl, row_of}
 use Rattle.weedle_grammar.specs.written.Bound.{rule_count}
 use Rattle.weedle_grammar.proofs.Takes.{takes}
 use Rattle.weedle_grammar.proofs.Checked.{ranked}
-use Rattle.weedle_rules.specs.Cells.{HasEnd, cell_number}
+use Rattle.weedle_rules.specs.Cells.{HasEnd, turn_number}
 use Rattle.weedle_rules.proofs.RowEnds.{rule_ends, seq_ends, first_ends}
-use Rattle.weedle_rules.proofs.PartEnds.{Along, along_start, along_step, along_fails, along_ends, along_known, Trying, trying_start, trying_known, first_fits, first_tries_on, first_fits_none}
+use Rattle.weedle_rules.proofs.PartEnds.{Along, along_start, along_step, along_fails, along_ends, along_before, Trying, trying_start, trying_before, first_fits, first_tries_on, first_fits_none}
 use Rattle.weedle_rules.proofs.OutcomeFacts.{it_ends, it_fails}
 use Rattle.weedle_syntax.specs.declared.node.Node.{Node}
 use Rattle.weedle_syntax.specs.Parts.{AreInTurn, IsFirst, AreParts}
@@ -87,8 +87,8 @@ module _ (text : List ℕ) (r p d : ℕ) (parts : List ℕ) (old : List Node) wh
     onward = λ ns z k. subst (AreInTurn text parts d p z) (sym (append_assoc g.inner (node x at e d ∷ []) ns)) (g.onward (node x at e d ∷ ns) z (is_node text x d at e (it_ends h), k));
   }
 
-  pub reading_before : (x : ℕ) (rest : List ℕ) (at : ℕ) (now : List Node) → Reading text r p d parts old (x ∷ rest) at now → x < rule_count → cell_number (length text) x at < cell_number (length text) r p
-  reading_before x rest at now g l = along_known webidl text takes ranked r p x at parts rest g.along l
+  pub reading_before : (x : ℕ) (rest : List ℕ) (at : ℕ) (now : List Node) → Reading text r p d parts old (x ∷ rest) at now → x < rule_count → turn_number (length text) x at < turn_number (length text) r p
+  reading_before x rest at now g l = along_before webidl text takes ranked r p x at parts rest g.along l
 
   pub reading_fails : (x : ℕ) (rest : List ℕ) (at : ℕ) (now : List Node) → row_of r ≡ Seq parts → Reading text r p d parts old (x ∷ rest) at now → HasEnd text x at None → HasEnd text r p None
   reading_fails x rest at now is g h = rule_ends is (seq_ends webidl text parts p None (along_fails webidl text takes r p x at parts rest g.along h))
@@ -113,8 +113,8 @@ module _ (text : List ℕ) (r p d : ℕ) (parts : List ℕ) (old : List Node) wh
   pub picking_start : row_of r ≡ First parts → Picking text r p d parts old parts old
   picking_start is = record { count = 0; trying = trying_start webidl text takes ranked r p parts is; same = refl; onward = λ ns e a. a }
 
-  pub picking_before : (x : ℕ) (rest : List ℕ) (now : List Node) → Picking text r p d parts old (x ∷ rest) now → cell_number (length text) x p < cell_number (length text) r p
-  picking_before x rest now g = trying_known webidl text takes ranked r g.count p x parts rest g.trying
+  pub picking_before : (x : ℕ) (rest : List ℕ) (now : List Node) → Picking text r p d parts old (x ∷ rest) now → turn_number (length text) x p < turn_number (length text) r p
+  picking_before x rest now g = trying_before webidl text takes ranked r g.count p x parts rest g.trying
 
   pub picking_step : (x : ℕ) (rest : List ℕ) (now new : List Node) → Picking text r p d parts old (x ∷ rest) now → HasEnd text x p None → new ≡ now → Picking text r p d parts old rest new
   picking_step x rest now new g h e = record {

@@ -23,7 +23,7 @@ pub record Sits (text : List ℕ) (n : Node) : Type 0 where
   pub starts : IsCharBoundary text n.start
   pub ends : IsCharBoundary text n.end
 
-each_all : (P : Node → Type 0) (ns : List Node) → Each P ns → All P ns
+pub each_all : (P : Node → Type 0) (ns : List Node) → Each P ns → All P ns
 each_all P [] h = All-nil P
 each_all P (n ∷ ns) h = All-cons P n ns h.0 (each_all P ns h.1)
 
@@ -41,7 +41,7 @@ module _ (text : List ℕ) (utf8 : IsUtf8 text) where
   parts_sit n ns s h (inl e) = subst (Each (Sits text)) (sym e) tt
   parts_sit n ns s h (inr t) = tiles_sit n.rule n.start (n.depth + 1) n.start n.end ns s.starts t.0 (parts_are_children text n ns s.within s.low s.reads h)
 
-  all_sit : (ns w : List Node) → AreNodes text w ns → Each (Sits text) w → Each (Sits text) ns
+  pub all_sit : (ns w : List Node) → AreNodes text w ns → Each (Sits text) w → Each (Sits text) ns
   all_sit [] w a h = tt
   all_sit (n ∷ ns) w (inner, others, is, parts, a) h =
       let s = subst (Each (Sits text)) is h in

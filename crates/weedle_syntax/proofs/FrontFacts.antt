@@ -1,10 +1,10 @@
--- Definitions at the front of a text: they never fail; what is promised of their nodes.
-use Rattle.std.proofs.Common.{◌≡◌, ℕ, ◌-◌, ◌<◌, List, None, refl, sym, ◌∙◌, ap, arith, length, take}
+-- What is read at the front of a text: repetitions never fail; what is promised of the nodes of definitions.
+use Rattle.std.proofs.Common.{◌≡◌, ℕ, ◌-◌, ◌<◌, List, true, None, refl, sym, ◌∙◌, ap, arith, length, take}
 use Rattle.std.specs.Prelude.{All, IsUtf8}
 use Rattle.weedle_grammar.specs.Rows.{Many}
 use Rattle.weedle_grammar.specs.Trees.{Tree}
 use Rattle.weedle_grammar.specs.Meaning.{Raw, Breaks, Yields, before, ReadsRow, many_end, many_stuck, many_more}
-use Rattle.weedle_grammar.specs.written.Table.{webidl}
+use Rattle.weedle_grammar.specs.written.Table.{webidl, row_of}
 use Rattle.weedle_grammar.specs.written.Table.Definitions.{DEFINITION, DEFINITIONS}
 use Rattle.weedle_grammar.proofs.Takes.{takes}
 use Rattle.weedle_grammar.proofs.Checked.{rank, ranked}
@@ -25,14 +25,18 @@ breaks : (w : Raw) → None ≡ raw_end w → w ≡ Breaks
 breaks Breaks e = refl
 breaks (Yields us ends q) e = cc
 
-many_never : {text : List ℕ} {p : ℕ} {w : Raw} → ReadsRow webidl text (Many DEFINITION) p w → w ≡ Breaks → ⊥
-many_never (many_end d e) h = cc
-many_never {text} {p} (many_stuck {q = q} d s e) h = let on : p < q = advances webidl text rank takes ranked d refl in absurd (omega arith)
-many_never (many_more {ts = ts} {w = v} d n m e) h = many_never m (breaks_before ts v (sym e ∙ h))
+many_never : {text : List ℕ} {y p : ℕ} {w : Raw} → takes y ≡ true → ReadsRow webidl text (Many y) p w → w ≡ Breaks → ⊥
+many_never t (many_end d e) h = cc
+many_never {text} {p = p} t (many_stuck {q = q} d s e) h = let on : p < q = advances webidl text rank takes ranked d t in absurd (omega arith)
+many_never t (many_more {ts = ts} {w = v} d n m e) h = many_never t m (breaks_before ts v (sym e ∙ h))
 
--- the rule of definitions never fails
+-- a repetition of what takes a byte never fails
+pub many_reads : (text : List ℕ) (r y p : ℕ) → row_of r ≡ Many y → takes y ≡ true → HasEnd text r p None → ⊥
+many_reads text r y p is t h = let m = row_ends {row = Many y} is h in many_never t m.reads (breaks m.raw m.is)
+
+-- so the rule of definitions doesn't
 pub never_fails : (text : List ℕ) (p : ℕ) → HasEnd text DEFINITIONS p None → ⊥
-never_fails text p h = let m = row_ends {row = Many DEFINITION} refl h in many_never m.reads (breaks m.raw m.is)
+never_fails text p h = many_reads text DEFINITIONS DEFINITION p refl refl h
 
 -- the first node's end
 root_first : (text : List ℕ) (end : ℕ) (ns : List Node) → IsSyntaxTo text end ns → rest_of ns ≡ end

@@ -5,9 +5,11 @@ use Rattle.std.specs.List.{prefix_len}
 use Rattle.std.proofs.lemmas.Bool.{cases_lt, lt-ltb, le-ltb}
 use Rattle.std.proofs.lemmas.List.{drop_more, drop_all}
 use Rattle.weedle_grammar.specs.written.Table.{row_of}
+use Rattle.weedle_syntax.specs.declared.dialect.Dialect.{Dialect}
 use Rattle.weedle_syntax.specs.declared.node.Node.{Node}
+use Rattle.weedle_syntax.specs.Dialects.{start_of, IsFrontIn}
 use Rattle.weedle_syntax.specs.Parts.{HasParts}
-use Rattle.weedle_syntax.specs.Syntax.{IsFront, root_to}
+use Rattle.weedle_syntax.specs.Syntax.{node_to, root_to}
 use Rattle.weedle_syntax.specs.Tree.{node_at, is_deeper, below_of, numbers_where, children_of}
 use Rattle.weedle_syntax.proofs.TreeFacts.{AreNodes, nodes_of}
 use Rattle.weedle_syntax.proofs.LeafFacts.{Level, Rise, row_covers, rise_append, rise_more}
@@ -125,9 +127,9 @@ module _ (ns : List Node) (d : ℕ) where
       ]
 
 -- a node's children are the nodes that it reads directly
-pub children_are_parts : (text : List ℕ) (ns : List Node) (i : ℕ) → IsFront text ns → i < length ns → HasParts text (node_at ns i) (map (node_at ns) (children_of ns i))
-children_are_parts text ns i f l =
-    let at = inner_at text i 0 ns (root_to f.0 ∷ []) (nodes_of text (root_to f.0 ∷ []) ns f.2) (omega arith, tt) l in
+pub children_are_parts : (dialect : Dialect) (text : List ℕ) (ns : List Node) (i : ℕ) → IsFrontIn dialect text ns → i < length ns → HasParts text (node_at ns i) (map (node_at ns) (children_of ns i))
+children_are_parts dialect text ns i f l =
+    let at = inner_at text i 0 ns (node_to (start_of dialect) f.0 ∷ []) (nodes_of text (node_to (start_of dialect) f.0 ∷ []) ns f.2) (omega arith, tt) l in
     let d = depth_at ns i in
     let behind : drop (suc i) ns ≡ drop (i + 1) ns = ap (λ z. drop z ns) (sym (add-one i)) in
     let many : i + 1 + below_of ns i - (i + 1) ≡ below_of ns i = omega arith in

@@ -62,7 +62,7 @@ module _ (ns : List Node) (counts : List ℕ) (depth next end : ℕ) (h : AreChi
 
 module _ (ns : List Node) (counts : List ℕ) (i : ℕ) (l : i < length ns) where
   -- what is known of a node's children before the first was given
-  pub children_begin : (end count : ℕ) → IsJoined ns end → AreCounts ns counts 0 → count ≡ below_of ns i → AreChildren ns counts (depth_at ns i) (i + 1) (i + 1 + count)
+  pub children_begin : {r : ℕ} (end count : ℕ) → IsJoined r ns end → AreCounts ns counts 0 → count ≡ below_of ns i → AreChildren ns counts (depth_at ns i) (i + 1) (i + 1 + count)
   children_begin end count j c is =
       let w = below_within ns i l in
       record {

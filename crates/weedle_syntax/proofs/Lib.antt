@@ -26,3 +26,4 @@ pub mod InnerFacts
 mod RunFacts
 mod CompactFacts
 mod FillFacts
+mod DialectFacts

@@ -6,9 +6,11 @@ use Rattle.weedle_grammar.specs.written.Table.{row_of}
 use Rattle.weedle_grammar.proofs.Unique.{one_seq}
 use Rattle.weedle_rules.specs.Outcomes.{EndsAt, FailsAt}
 use Rattle.weedle_rules.proofs.OutcomeFacts.{one_end, not_both}
+use Rattle.weedle_syntax.specs.declared.dialect.Dialect.{Dialect}
 use Rattle.weedle_syntax.specs.declared.node.Node.{Node}
 use Rattle.weedle_syntax.specs.Parts.{IsNode, AreInTurn, IsFirst, AreItems, NoneFollows, AreFollowing, Gave, AreParts}
-use Rattle.weedle_syntax.specs.Syntax.{AreTrees, no_trees, a_tree, root_to, IsFront}
+use Rattle.weedle_syntax.specs.Dialects.{start_of, IsSyntaxIn}
+use Rattle.weedle_syntax.specs.Syntax.{AreTrees, no_trees, a_tree, root_to, node_to, IsFront}
 use Rattle.weedle_syntax.specs.Laid.{node}
 
 same_node : (n m : Node) → n.rule ≡ m.rule → n.start ≡ m.start → n.end ≡ m.end → n.depth ≡ m.depth → n ≡ m
@@ -99,7 +101,7 @@ module _ (text : List ℕ) (d : ℕ) where
   one_row (Run b) p e ns ms h k = h ∙ sym k
   one_row (Past b) p e ns ms h k = h ∙ sym k
 
-one_forest : (text : List ℕ) (w ns ms : List Node) → AreTrees text w ns → AreTrees text w ms → ns ≡ ms
+pub one_forest : (text : List ℕ) (w ns ms : List Node) → AreTrees text w ns → AreTrees text w ms → ns ≡ ms
 one_forest text [] ns ms (no_trees a) (no_trees b) = a ∙ sym b
 one_forest text (n ∷ others) ns ms (a_tree {inner = inner} {below = below} {behind = behind} p a b e) (a_tree {inner = inner'} {below = below'} {behind = behind'} q c d f) =
     let same : inner ≡ inner' = one_row text (n.depth + 1) (row_of n.rule) n.start n.end inner inner' p q in
@@ -114,3 +116,7 @@ one_front text ns ms (end, h, a) (other, k, b) = one_forest text (root_to end �
 -- of a whole text
 pub one_syntax : (text : List ℕ) (ns ms : List Node) → AreTrees text (root_to (length text) ∷ []) ns → AreTrees text (root_to (length text) ∷ []) ms → ns ≡ ms
 one_syntax text ns ms h k = one_forest text (root_to (length text) ∷ []) ns ms h k
+
+-- the same by the rules of a dialect
+pub one_syntax_in : (dialect : Dialect) (text : List ℕ) (ns ms : List Node) → IsSyntaxIn dialect text ns → IsSyntaxIn dialect text ms → ns ≡ ms
+one_syntax_in dialect text ns ms h k = one_forest text (node_to (start_of dialect) (length text) ∷ []) ns ms h k

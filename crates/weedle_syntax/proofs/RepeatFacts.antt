@@ -7,8 +7,8 @@ use Rattle.weedle_grammar.specs.written.Bound.{rule_count}
 use Rattle.weedle_grammar.proofs.Takes.{takes}
 use Rattle.weedle_grammar.proofs.Checked.{ranked}
 use Rattle.weedle_grammar.proofs.Leaves.{both}
-use Rattle.weedle_rules.specs.Cells.{HasEnd, cell_number}
-use Rattle.weedle_rules.proofs.RowEnds.{is_before, RowEnds, rule_ends, opt_absent, opt_present, many_ends, many_fails, many_goes, list_ends, list_goes, list1_ends, list1_goes, tail_ends, tail_fails, tail_gives_back, tail_goes}
+use Rattle.weedle_rules.specs.Cells.{HasEnd, turn_number}
+use Rattle.weedle_rules.proofs.RowEnds.{turn_before, RowEnds, rule_ends, opt_absent, opt_present, many_ends, many_fails, many_goes, list_ends, list_goes, list1_ends, list1_goes, tail_ends, tail_fails, tail_gives_back, tail_goes}
 use Rattle.weedle_rules.proofs.PartEnds.{below, opt_low, many_low, tail_low, list_low, list1_low, list_next_low, list1_next_low}
 use Rattle.weedle_rules.proofs.OutcomeFacts.{it_ends, it_fails}
 use Rattle.weedle_syntax.specs.declared.node.Node.{Node}
@@ -38,7 +38,7 @@ module _ (text : List ℕ) (r p d : ℕ) (old : List Node) where
     pub opt_not_laid : (new : List Node) → HasEnd text y p None → new ≡ old → LaysParts text r p d old new (Some p)
     opt_not_laid new h e = ([], by_its_row text r d p p [] is (inr (it_fails h, (refl, refl))), still_added text [] old old new (none_added text old) e)
 
-    pub opt_before : cell_number (length text) y p < cell_number (length text) r p
+    pub opt_before : turn_number (length text) y p < turn_number (length text) r p
     opt_before = let l : y < r = opt_low webidl text takes ranked r y is in omega arith
 
   -- an item and what follows it are written
@@ -64,15 +64,15 @@ module _ (text : List ℕ) (r p d : ℕ) (old : List Node) where
     pub list_not_laid : (new : List Node) → HasEnd text y p None → new ≡ old → LaysParts text r p d old new (Some p)
     list_not_laid new h e = ([], by_its_row text r d p p [] is (inr (it_fails h, (refl, refl))), still_added text [] old old new (none_added text old) e)
 
-    pub list_before : cell_number (length text) y p < cell_number (length text) r p
+    pub list_before : turn_number (length text) y p < turn_number (length text) r p
     list_before = let l : y < r = list_low webidl text takes ranked r y t is in omega arith
 
-    pub list_next : (q : ℕ) → HasEnd text y p (Some q) → p ≤ length text → (q ≤ length text) × (t < rule_count) × (cell_number (length text) t q < cell_number (length text) r p)
+    pub list_next : (q : ℕ) → HasEnd text y p (Some q) → p ≤ length text → (q ≤ length text) × (t < rule_count) × (turn_number (length text) t q < turn_number (length text) r p)
     list_next q h w =
         let l : t < rule_count = below _ _ (both _ _ (row_named r is)).1 in
         let on = ends_after (it_ends h) in
         let in_text = ends_inside (it_ends h) w in
-        (in_text, l, is_before p q t r (length text) on in_text l (list_next_low webidl text takes ranked r y t p q is h))
+        (in_text, l, turn_before p q t r (length text) on in_text l (list_next_low webidl text takes ranked r y t p q is h))
 
   module _ (y t : ℕ) (is : row_of r ≡ List1 y t) where
     pub list1_more : (q : ℕ) (o : Option ℕ) → HasEnd text y p (Some q) → HasEnd text t q o → HasEnd text r p o
@@ -84,15 +84,15 @@ module _ (text : List ℕ) (r p d : ℕ) (old : List Node) where
     pub list1_laid : (q : ℕ) (mid new : List Node) (o : Option ℕ) → HasEnd text y p (Some q) → HasEnd text t q o → Adds text (node y p q d ∷ []) old mid → LaysNode text t q d mid new o → LaysParts text r p d old new o
     list1_laid q mid new o h k a b = two_laid y t q mid new o h k a b (λ e ns s. by_its_row text r d p e ns is s)
 
-    pub list1_before : cell_number (length text) y p < cell_number (length text) r p
+    pub list1_before : turn_number (length text) y p < turn_number (length text) r p
     list1_before = let l : y < r = list1_low webidl text takes ranked r y t is in omega arith
 
-    pub list1_next : (q : ℕ) → HasEnd text y p (Some q) → p ≤ length text → (q ≤ length text) × (t < rule_count) × (cell_number (length text) t q < cell_number (length text) r p)
+    pub list1_next : (q : ℕ) → HasEnd text y p (Some q) → p ≤ length text → (q ≤ length text) × (t < rule_count) × (turn_number (length text) t q < turn_number (length text) r p)
     list1_next q h w =
         let l : t < rule_count = below _ _ (both _ _ (row_named r is)).1 in
         let on = ends_after (it_ends h) in
         let in_text = ends_inside (it_ends h) w in
-        (in_text, l, is_before p q t r (length text) on in_text l (list1_next_low webidl text takes ranked r y t p q is h))
+        (in_text, l, turn_before p q t r (length text) on in_text l (list1_next_low webidl text takes ranked r y t p q is h))
 
 -- a repetition that is being read
 pub record Again (text : List ℕ) (r y p d : ℕ) (old : List Node) (at : ℕ) (now : List Node) : Type 0 where
@@ -107,10 +107,10 @@ module _ (text : List ℕ) (r y p d : ℕ) (old : List Node) (is : row_of r ≡ 
   pub again_start : p ≤ length text → Again text r y p d old p old
   again_start l = record { ends = λ e h. h; after = omega arith; within = l; inner = []; adds = none_added text old; onward = λ ns e a. a }
 
-  pub again_before : (at : ℕ) (now : List Node) → r < rule_count → Again text r y p d old at now → (y < rule_count) × (cell_number (length text) y at < cell_number (length text) r p)
+  pub again_before : (at : ℕ) (now : List Node) → r < rule_count → Again text r y p d old at now → (y < rule_count) × (turn_number (length text) y at < turn_number (length text) r p)
   again_before at now low g =
       let l : y < r = many_low webidl text takes ranked r y is in
-      (omega arith, is_before p at y r (length text) g.after g.within (omega arith) (λ h. l))
+      (omega arith, turn_before p at y r (length text) g.after g.within (omega arith) (λ h. l))
 
   pub again_step : (at e : ℕ) (now new : List Node) → Again text r y p d old at now → HasEnd text y at (Some e) → e ≢ at → Adds text (node y at e d ∷ []) now new → Again text r y p d old e new
   again_step at e now new g h n a =
@@ -157,18 +157,18 @@ module _ (text : List ℕ) (r y s p d : ℕ) (old : List Node) (is : row_of r �
   pub behind_start : p ≤ length text → Behind text r y s p d old p old
   behind_start l = record { ends = λ e h. h; after = omega arith; within = l; inner = []; adds = none_added text old; onward = λ ns e a. a }
 
-  pub behind_before : (at : ℕ) (now : List Node) → r < rule_count → Behind text r y s p d old at now → (s < rule_count) × (cell_number (length text) s at < cell_number (length text) r p)
+  pub behind_before : (at : ℕ) (now : List Node) → r < rule_count → Behind text r y s p d old at now → (s < rule_count) × (turn_number (length text) s at < turn_number (length text) r p)
   behind_before at now low g =
       let l : s < r = tail_low webidl text takes ranked r y s is in
-      (omega arith, is_before p at s r (length text) g.after g.within (omega arith) (λ h. l))
+      (omega arith, turn_before p at s r (length text) g.after g.within (omega arith) (λ h. l))
 
-  pub behind_item : (at q : ℕ) (now : List Node) → Behind text r y s p d old at now → HasEnd text s at (Some q) → q ≢ at → (q ≤ length text) × (y < rule_count) × (cell_number (length text) y q < cell_number (length text) r p)
+  pub behind_item : (at q : ℕ) (now : List Node) → Behind text r y s p d old at now → HasEnd text s at (Some q) → q ≢ at → (q ≤ length text) × (y < rule_count) × (turn_number (length text) y q < turn_number (length text) r p)
   behind_item at q now g h n =
       let l : y < rule_count = below _ _ (both _ _ (row_named r is)).0 in
       let on = ends_after (it_ends h) in
       let after = g.after in
       let in_text = ends_inside (it_ends h) g.within in
-      (in_text, l, is_before p q y r (length text) (omega (arith, on, after)) in_text l (λ k. absurd (n (omega (arith, on, after, k)))))
+      (in_text, l, turn_before p q y r (length text) (omega (arith, on, after)) in_text l (λ k. absurd (n (omega (arith, on, after, k)))))
 
   pub behind_step : (at q e : ℕ) (now mid new : List Node) → Behind text r y s p d old at now → HasEnd text s at (Some q) → q ≢ at → Adds text (node s at q d ∷ []) now mid → HasEnd text y q (Some e) → Adds text (node y q e d ∷ []) mid new
       → Behind text r y s p d old e new

@@ -1,8 +1,10 @@
 -- From a node to the one behind it: its first part begins where it begins, or what follows begins where it ends.
 use Rattle.std.proofs.Common.{◌≡◌, ◌⊎◌, inl, inr, ℕ, zero, suc, ◌+◌, ◌<◌, ◌≤◌, List, [], ◌∷◌, ◌++◌, length, refl, sym, subst, ap, arith, add-one}
 use Rattle.weedle_grammar.specs.written.Table.{row_of}
+use Rattle.weedle_syntax.specs.declared.dialect.Dialect.{Dialect}
 use Rattle.weedle_syntax.specs.declared.node.Node.{Node}
-use Rattle.weedle_syntax.specs.Syntax.{RestBegins, root_to, IsFront, rest_of}
+use Rattle.weedle_syntax.specs.Dialects.{start_of, RestBeginsIn, IsFrontIn}
+use Rattle.weedle_syntax.specs.Syntax.{node_to, rest_of}
 use Rattle.weedle_syntax.specs.Tree.{node_at}
 use Rattle.weedle_syntax.proofs.TreeFacts.{AreNodes, nodes_of}
 use Rattle.weedle_syntax.proofs.ChildFacts.{Each, each_append}
@@ -87,21 +89,21 @@ deep_at [] i l h = absurd (omega arith)
 deep_at (n ∷ ns) zero l h = h.0
 deep_at (n ∷ ns) (suc i) l h = deep_at ns i (omega arith) h.1
 
--- what is known of the nodes of the definitions at a text's front
-pub record IsJoined (ns : List Node) (end : ℕ) : Type 0 where
+-- what is known of the nodes of rule r that is read at a text's front
+pub record IsJoined (r : ℕ) (ns : List Node) (end : ℕ) : Type 0 where
   pub some : 0 < length ns
-  pub root : node_at ns 0 ≡ root_to end
+  pub root : node_at ns 0 ≡ node_to r end
   pub rest : rest_of ns ≡ end
   pub step : (i : ℕ) → i + 1 < length ns → Follows (node_at ns i) (node_at ns (i + 1))
   pub last : (i : ℕ) → i + 1 ≡ length ns → (node_at ns i).end ≡ end
   pub deep : (i : ℕ) → 0 < i → i < length ns → 0 < depth_at ns i
 
-joined_from : (text : List ℕ) (end : ℕ) (ns : List Node) → AreNodes text (root_to end ∷ []) ns → IsJoined ns end
-joined_from text end [] a = cc
-joined_from text end (n ∷ ns) (inner, others, is, parts, a) =
-    let same : root_to end ≡ n = cc in
+joined_from : (text : List ℕ) (r end : ℕ) (ns : List Node) → AreNodes text (node_to r end ∷ []) ns → IsJoined r ns end
+joined_from text r end [] a = cc
+joined_from text r end (n ∷ ns) (inner, others, is, parts, a) =
+    let same : node_to r end ≡ n = cc in
     let none : [] ≡ others = cc in
-    let steps = steps_of text (n ∷ ns) (root_to end ∷ []) 0 end 0 (inner, others, is, parts, a) (refl, omega arith, refl) (omega arith, tt) in
+    let steps = steps_of text (n ∷ ns) (node_to r end ∷ []) 0 end 0 (inner, others, is, parts, a) (refl, omega arith, refl) (omega arith, tt) in
     let deep = all_deep text ns (inner ++ others) a (each_append (λ m. 0 < m.depth) inner others (covered_deep text n.depth n.start n.end inner (row_covers text (n.depth + 1) (row_of n.rule) n.start n.end inner parts)) (subst (Each (λ m. 0 < m.depth)) none tt)) in
     record {
       some = omega arith;
@@ -116,5 +118,5 @@ joined_from text end (n ∷ ns) (inner, others, is, parts, a) =
     behind zero a l h = absurd (omega arith)
     behind (suc i) a l h = deep_at ns i (omega arith) h
 
-pub joined : (text : List ℕ) (ns : List Node) → IsFront text ns → (end : ℕ) × RestBegins text end × IsJoined ns end
-joined text ns (end, reads, are) = (end, reads, joined_from text end ns (nodes_of text (root_to end ∷ []) ns are))
+pub joined : (dialect : Dialect) (text : List ℕ) (ns : List Node) → IsFrontIn dialect text ns → (end : ℕ) × RestBeginsIn dialect text end × IsJoined (start_of dialect) ns end
+joined dialect text ns (end, reads, are) = (end, reads, joined_from text (start_of dialect) end ns (nodes_of text (node_to (start_of dialect) end ∷ []) ns are))

@@ -46,7 +46,7 @@ module _ (ns : List Node) (byte low high middle : ℕ) (h : Halving ns byte low 
   pub halve_down : low < middle → middle < high → byte < (node_at ns middle).start → Halving ns byte low middle
   halve_down a b s = record { some = a; within = (let w = h.within in omega arith); starts = h.starts; behind = λ l. s }
 
-module _ (ns : List Node) (end : ℕ) (j : IsJoined ns end) where
+module _ {r : ℕ} (ns : List Node) (end : ℕ) (j : IsJoined r ns end) where
   -- no node is deeper by more than one than the node before it
   step_up : (i : ℕ) → i + 1 < length ns → depth_at ns (i + 1) ≤ depth_at ns i + 1
   step_up i l = elim (j.step i l) [ inl h ↦ (let e = h.1 in omega arith) | inr h ↦ (let e = h.1 in omega arith) ]

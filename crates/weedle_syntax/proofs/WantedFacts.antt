@@ -10,7 +10,7 @@ use Rattle.weedle_rules.proofs.RowEnds.{raw_end, row_ends}
 use Rattle.weedle_rules.proofs.OutcomeFacts.{has_end, one_end, not_both}
 use Rattle.weedle_starts.specs.Tries.{TriesInTurn, TriesByChoice, TriesListed, RowTries}
 use Rattle.weedle_starts.proofs.ReadFacts.{many_goes, tail_goes}
-use Rattle.weedle_memo.specs.Wanted.{WantedFrom, by}
+use Rattle.weedle_memo.specs.Wanted.{WantedFrom, at_first, by}
 use Rattle.weedle_syntax.specs.declared.node.Node.{Node}
 use Rattle.weedle_syntax.specs.Parts.{IsNode, AreInTurn, IsFirst, AreItems, AreFollowing, AreListed, AreParts, HasParts, Gave}
 use Rattle.weedle_syntax.specs.Table.{TableView, IsWanted}

@@ -7,3 +7,4 @@ pub mod Kinds
 pub mod Steps
 pub mod Table
 pub mod Compact
+pub mod Dialects

@@ -1,5 +1,6 @@
 -- What is known of a text, as contracts see it, and what may be asked of it.
-use Rattle.std.specs.Prelude.{◌≡◌, ℕ, List}
+use Rattle.std.specs.Prelude.{◌≡◌, ◌<◌, ℕ, List}
+use Rattle.weedle_grammar.specs.written.Bound.{table_count}
 use Rattle.weedle_memo.specs.Entries.{Start, start_at}
 use Rattle.weedle_memo.specs.Wanted.{WantedFrom}
 use Rattle.weedle_syntax.specs.declared.table.Known.{Known}
@@ -13,9 +14,9 @@ pub record TableView : Type 0 where
 abbrev pub table_of : List ℕ → ℕ → ℕ → TableView
 table_of text r p = record { text = text; start = start_at r p }
 
--- what is known is of this text, and a memo of this rule at this place
+-- what is known is of this text: a packrat table, where the rule is one of its rules, or a memo of this rule at this place
 abbrev pub IsKnown : List ℕ → ℕ → ℕ → Known → Type 0
-IsKnown text r p (Filled ends) = ends.now.text ≡ text
+IsKnown text r p (Filled ends) = (ends.now.text ≡ text) × (r < table_count)
 IsKnown text r p (OnDemand memo) = (memo.now.text ≡ text) × (memo.now.start ≡ start_at r p)
 
 -- rule x is tried at q by what is read

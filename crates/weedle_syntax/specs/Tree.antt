@@ -1,8 +1,10 @@
 -- Which node is below which, by their numbers in preorder.
 use Rattle.std.specs.Prelude.{◌≡◌, ◌≤◌, ◌<◌, ◌+◌, ◌-◌, ◌==◌, ℕ, zero, suc, Bool, cond, nat_lt, drop, length, slice_index, slice_index_or, All, List, [], ◌∷◌, Option, MatchOption}
 use Rattle.std.specs.List.{prefix_len}
+use Rattle.weedle_syntax.specs.declared.dialect.Dialect.{Dialect}
 use Rattle.weedle_syntax.specs.declared.node.Node.{Node}
-use Rattle.weedle_syntax.specs.Syntax.{root_to, IsFront, IsRead}
+use Rattle.weedle_syntax.specs.Dialects.{IsFrontIn}
+use Rattle.weedle_syntax.specs.Syntax.{root_to, IsRead}
 
 -- node i
 abbrev pub node_at : List Node → ℕ → Node
@@ -75,8 +77,8 @@ pub record AreCounts (ns : List Node) (counts : List ℕ) (from : ℕ) : Type 0 
   pub are : (i : ℕ) → from ≤ i → i < length ns → slice_index counts i ≡ below_of ns i
 
 -- what always holds of a `Syntax`
-pub record IsTree (text : List ℕ) (ns : List Node) (counts : List ℕ) : Type 0 where
-  pub front : IsFront text ns
+pub record IsTree (text : List ℕ) (dialect : Dialect) (ns : List Node) (counts : List ℕ) : Type 0 where
+  pub front : IsFrontIn dialect text ns
   pub read : All (IsRead text) ns
   pub counted : AreCounts ns counts 0
 

@@ -15,11 +15,25 @@
 //!     }
 //! }
 //! ```
+//!
+//! A [`Dialect`] says by whose rules a text is read, weedle2's or today's:
+//!
+//! ```rust
+//! use weedle_syntax::{Dialect, Syntax};
+//!
+//! let text = "[Exposed=*] interface A {};";
+//! if let Some(syntax) = Syntax::new_in(rt.alloc(), text, Dialect::Today)? {
+//!     assert!(rt; syntax.dialect() == Dialect::Today);
+//!     assert_eq!(rt; syntax.rest(), 27);
+//! }
+//! assert!(rt; Syntax::new(rt.alloc(), text)?.is_none());
+//! ```
 #![tactic(auto)]
 
 mod below;
 mod compact;
 mod descent;
+mod dialect;
 mod empty;
 mod fill;
 mod front;
@@ -41,6 +55,7 @@ mod trivia;
 mod walk;
 
 pub use compact::Compact;
+pub use dialect::{Dialect, syntax_quick_in};
 pub use fill::FromNode;
 pub use front::{compact_of_front, compact_of_rule};
 pub use iter::{Children, Leaves};

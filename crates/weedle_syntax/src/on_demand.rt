@@ -1,7 +1,9 @@
 //! The calls that write the nodes of a text over a memo of what their reading needs.
 
-ghost use Rattle.std.specs.Prelude.{◌≡◌, ◌↔◌, All, IsSome, IfOk, IfSome, IfNone};
+ghost use Rattle.std.specs.Prelude.{◌≡◌, ◌≤◌, ◌↔◌, All, IsSome, IfOk, IfSome, IfNone, length};
+ghost use Rattle.weedle_rules.specs.Cells.{HasEnd};
 ghost use Rattle.weedle_rules.specs.Outcomes.{FailsAt};
+ghost use Rattle.weedle_syntax.specs.Laid.{LaysNode};
 ghost use Rattle.weedle_syntax.specs.Syntax.{
   IsWhole,
   IsSyntax,
@@ -81,6 +83,32 @@ pub(crate) fn rule_on_demand(
         Some(end) => {
             let nodes = laid_from(alloc, &Table::of_memo(&memo, raw, rule, 0), end)?;
             Ok(Some(nodes))
+        }
+        None => Ok(None),
+    }
+}
+
+/// Writes the nodes of a rule that is read at a place, behind those there, and says where it ends;
+/// where it fails, nothing is written.
+pub(crate) fn lay_on_demand(
+    alloc: Global,
+    nodes: &mut Vec<Node>,
+    raw: &str,
+    rule: Rule,
+    place: usize,
+) -> Result<Option<usize>, AllocError>
+    requires { place ≤ length raw.now }
+    ensures end { IfOk result (λ o. HasEnd raw.now rule place o) }
+    ensures lays { IfOk result
+        (λ o. LaysNode raw.now rule place 0 nodes.old.items nodes.new.items o) }
+{
+    let tables = Tables::new();
+    let memo = RuleMemo::new(alloc, raw, &tables, rule, place)?;
+    match memo.rule_end() {
+        Some(end) => {
+            let mut more = laid_from(alloc, &Table::of_memo(&memo, raw, rule, place), end)?;
+            nodes.append(&mut more)?;
+            Ok(Some(end))
         }
         None => Ok(None),
     }

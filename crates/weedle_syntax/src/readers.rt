@@ -15,6 +15,7 @@ use crate::lay::front_by_descent;
 use crate::limits::Limits;
 use crate::narrow::widened;
 use crate::node::Node;
+use crate::on_demand::rule_on_demand;
 use crate::table::Table;
 use crate::walk::laid_from;
 use std::alloc::{AllocError, Global};
@@ -33,7 +34,7 @@ pub fn syntax_of(alloc: Global, ends: &Ends<'_>) -> Result<Option<Vec<Node>>, Al
     ensures read { IfOk result
         (λ found. IfSome found (λ nodes. All (IsRead ends.now.text) nodes.items)) }
 {
-    match ends.end(Rule::DEFINITIONS, 0) {
+    match ends.cell(Rule::DEFINITIONS, 0) {
         Some(end) => {
             if end == ends.text().len() {
                 let nodes = laid_from(alloc, &Table::of_ends(ends, Rule::DEFINITIONS, 0), end)?;
@@ -96,7 +97,7 @@ pub(crate) fn whole_within(
 pub fn front_of(alloc: Global, ends: &Ends<'_>) -> Result<Vec<Node>, AllocError>
     ensures { IfOk result (λ nodes. IsFront ends.now.text nodes.items) }
 {
-    match ends.end(Rule::DEFINITIONS, 0) {
+    match ends.cell(Rule::DEFINITIONS, 0) {
         Some(end) => laid_from(alloc, &Table::of_ends(ends, Rule::DEFINITIONS, 0), end),
         None => unreachable!(),
     }
@@ -105,7 +106,8 @@ pub fn front_of(alloc: Global, ends: &Ends<'_>) -> Result<Vec<Node>, AllocError>
 /// Every rule that was read where a rule is read at the front of a text, in preorder, over the
 /// packrat table of the whole text; None where the rule fails there.
 ///
-/// It asks for memory for the nodes alone.
+/// It asks for memory for the nodes alone. A rule of today's, which the table lacks, is read over a
+/// memo, as [`syntax_of_rule`](crate::syntax_of_rule) says.
 pub fn rule_of_table(
     alloc: Global,
     ends: &Ends<'_>,
@@ -115,7 +117,10 @@ pub fn rule_of_table(
     ensures are { IfOk result
         (λ found. IfSome found (λ nodes. IsRuleFront ends.now.text rule nodes.items)) }
 {
-    match ends.end(rule, 0) {
+    if !rule.is_of_table() {
+        return rule_on_demand(alloc, ends.text(), rule);
+    }
+    match ends.cell(rule, 0) {
         Some(end) => {
             let nodes = laid_from(alloc, &Table::of_ends(ends, rule, 0), end)?;
             Ok(Some(nodes))

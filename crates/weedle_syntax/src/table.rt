@@ -1,6 +1,7 @@
 //! Where the rules end that a tree is made of.
 
-ghost use Rattle.std.specs.Prelude.{◌≡◌, ◌≤◌, length};
+ghost use Rattle.std.specs.Prelude.{◌≡◌, ◌≤◌, ◌<◌, length};
+ghost use Rattle.weedle_grammar.specs.written.Bound.{table_count};
 ghost use Rattle.weedle_memo.specs.Entries.{start_at};
 ghost use Rattle.weedle_rules.specs.Cells.{HasEnd};
 ghost use Rattle.weedle_syntax.specs.Table.{IsWanted, table_of};
@@ -40,6 +41,7 @@ impl<'t, 'a> Model for Table<'t, 'a> {
 impl<'t, 'a> Table<'t, 'a> {
     /// The packrat table of a text, for the tree of a rule at a place.
     pub(crate) fn of_ends(ends: &'t Ends<'a>, rule: Rule, place: usize) -> Table<'t, 'a>
+        requires { rule < table_count }
         ensures { result ≡ table_of ends.now.text rule place }
     {
         Table {
@@ -78,7 +80,7 @@ impl<'t, 'a> Table<'t, 'a> {
         ensures right { HasEnd self.now.text rule place result }
     {
         match self.known {
-            Known::Filled(ends) => ends.end(rule, place),
+            Known::Filled(ends) => ends.cell(rule, place),
             Known::OnDemand(memo) => memo.end(rule, place),
         }
     }

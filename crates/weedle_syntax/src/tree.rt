@@ -16,14 +16,15 @@ ghost use Rattle.std.specs.Prelude.{
   MatchOption,
 };
 ghost use Rattle.weedle_grammar.specs.Meaning.{between};
-ghost use Rattle.weedle_syntax.specs.Syntax.{
-  RestBegins,
-  IsWhole,
-  IsSyntax,
-  IsFront,
-  rest_of,
-  root_to,
+ghost use Rattle.weedle_syntax.specs.declared.dialect.Dialect.TheVariants.{Weedle2};
+ghost use Rattle.weedle_syntax.specs.Dialects.{
+  start_of,
+  RestBeginsIn,
+  IsWholeIn,
+  IsFrontIn,
+  IsSyntaxIn,
 };
+ghost use Rattle.weedle_syntax.specs.Syntax.{IsWhole, IsSyntax, IsFront, rest_of, node_to};
 ghost use Rattle.weedle_syntax.specs.Tree.{
   node_at,
   below_of,
@@ -37,6 +38,7 @@ ghost use Rattle.weedle_syntax.specs.Tree.{
 };
 
 use crate::below::count_below;
+use crate::dialect::{Dialect, front_in};
 use crate::iter::{Children, Leaves};
 use crate::node::Node;
 use crate::quick::syntax_of_front;
@@ -52,10 +54,12 @@ use weedle_rules::Ends;
 /// of the nodes that it is in, and what is below a node has the numbers behind its own.
 ///
 /// In `enum E { "a" };` node 0 is the root, of the rule `DEFINITIONS`, and node 1 its child, of the
-/// rule `DEFINITION`.
+/// rule `DEFINITION`. By today's rules the root is of `TODAY_DEFINITIONS`, and its child of
+/// `TODAY_PIECE`.
 #[derive(Drop)]
 pub struct Syntax<'a> {
     text: &'a str,
+    dialect: Dialect,
     nodes: Vec<Node>,
     // how many nodes are below each
     below: Vec<usize>,
@@ -66,15 +70,16 @@ impl<'a> Model for Syntax<'a> {
 
     ghost Value = { SyntaxView };
 
-    ghost view = { λ s. record { text = s.text.now; nodes = s.nodes.items } };
+    ghost view = { λ s. record { text = s.text.now; dialect = s.dialect; nodes = s.nodes.items } };
 
     ghost use Rattle.weedle_syntax.specs.Tree.{IsTree};
 
-    ghost invariant = { λ s. IsTree s.text.now s.nodes.items s.below.items };
+    ghost invariant = { λ s. IsTree s.text.now s.dialect s.nodes.items s.below.items };
 }
 
 impl<'a> Syntax<'a> {
-    /// The nodes of a text that is read whole; None of one that isn't, as `interface A {`.
+    /// The nodes of a text that weedle2's rules read whole; None of one that they don't, as
+    /// `interface A {`.
     ///
     /// It reads as [`syntax_quick`](crate::syntax_quick) does, and costs the same; besides, it asks
     /// for memory once, 8 bytes for each node. Where memory is refused, the answer is an error.
@@ -82,10 +87,41 @@ impl<'a> Syntax<'a> {
         ensures whole { IfOk result (λ found. IsSome found ↔ IsWhole text.entry.now) }
         ensures text { IfOk result (λ found. IfSome found (λ s. s.text ≡ text.entry.now)) }
         ensures are { IfOk result (λ found. IfSome found (λ s. IsSyntax s.text s.nodes)) }
+        ensures dialect { IfOk result (λ found. IfSome found (λ s. s.dialect ≡ Weedle2)) }
+
+        // The same as `are`, in the words of the calls over a tree of any dialect.
+        ensures same { IfOk result
+            (λ found. IfSome found (λ s. IsSyntaxIn s.dialect s.text s.nodes)) }
     {
         let syntax = Syntax::of_front(alloc, text)?;
         if syntax.rest() == text.len() {
             return Ok(Some(syntax));
+        }
+        Ok(None)
+    }
+
+    /// The nodes of a text that the dialect's rules read whole; None of one that they don't: of
+    /// `[Exposed=*] interface A {};` there is a tree by today's rules alone.
+    ///
+    /// It reads as [`syntax_quick_in`](crate::syntax_quick_in) does, and costs the same; besides,
+    /// it asks for memory once, 8 bytes for each node. Where memory is refused, the answer is an
+    /// error.
+    pub fn new_in(
+        alloc: Global,
+        text: &'a str,
+        dialect: Dialect,
+    ) -> Result<Option<Syntax<'a>>, AllocError>
+        ensures whole { IfOk result (λ found. IsSome found ↔ IsWholeIn dialect text.entry.now) }
+        ensures text { IfOk result (λ found. IfSome found (λ s. s.text ≡ text.entry.now)) }
+        ensures are { IfOk result
+            (λ found. IfSome found (λ s. IsSyntaxIn dialect s.text s.nodes)) }
+        ensures dialect { IfOk result (λ found. IfSome found (λ s. s.dialect ≡ dialect)) }
+        ensures same { IfOk result
+            (λ found. IfSome found (λ s. IsSyntaxIn s.dialect s.text s.nodes)) }
+    {
+        let front = Syntax::of_front_in(alloc, text, dialect)?;
+        if front.rest() == text.len() {
+            return Ok(Some(front));
         }
         Ok(None)
     }
@@ -98,25 +134,59 @@ impl<'a> Syntax<'a> {
     pub fn of_front(alloc: Global, text: &'a str) -> Result<Syntax<'a>, AllocError>
         ensures text { IfOk result (λ s. s.text ≡ text.entry.now) }
         ensures are { IfOk result (λ s. IsFront s.text s.nodes) }
+        ensures dialect { IfOk result (λ s. s.dialect ≡ Weedle2) }
     {
         let nodes = syntax_of_front(alloc, text)?;
         let below = count_below(alloc, &nodes)?;
-        Ok(Syntax { text, nodes, below })
+        Ok(Syntax {
+            text,
+            dialect: Dialect::Weedle2,
+            nodes,
+            below,
+        })
     }
 
-    /// The nodes of a text that is read whole, over its packrat table; None of one that isn't.
+    /// The nodes of what the dialect's rules read at the front of a text, whatever follows it.
+    ///
+    /// Of `[A=*] interface B {}; interface` today's rules read the definition, and
+    /// [`rest`](Syntax::rest) is 22; weedle2's read nothing, and it is 0. It costs what
+    /// [`new_in`](Syntax::new_in) costs. Where memory is refused, the answer is an error.
+    pub fn of_front_in(
+        alloc: Global,
+        text: &'a str,
+        dialect: Dialect,
+    ) -> Result<Syntax<'a>, AllocError>
+        ensures text { IfOk result (λ s. s.text ≡ text.entry.now) }
+        ensures are { IfOk result (λ s. IsFrontIn dialect s.text s.nodes) }
+        ensures dialect { IfOk result (λ s. s.dialect ≡ dialect) }
+    {
+        let nodes = front_in(alloc, text, dialect)?;
+        let below = count_below(alloc, &nodes)?;
+        Ok(Syntax {
+            text,
+            dialect,
+            nodes,
+            below,
+        })
+    }
+
+    /// The nodes of a text that weedle2's rules read whole, over its packrat table; None of others.
     ///
     /// It asks for memory for the nodes, and once for 8 bytes for each.
     pub fn of_table(alloc: Global, ends: &Ends<'a>) -> Result<Option<Syntax<'a>>, AllocError>
         ensures whole { IfOk result (λ found. IsSome found ↔ IsWhole ends.now.text) }
         ensures text { IfOk result (λ found. IfSome found (λ s. s.text ≡ ends.now.text)) }
         ensures are { IfOk result (λ found. IfSome found (λ s. IsSyntax s.text s.nodes)) }
+        ensures dialect { IfOk result (λ found. IfSome found (λ s. s.dialect ≡ Weedle2)) }
+        ensures same { IfOk result
+            (λ found. IfSome found (λ s. IsSyntaxIn s.dialect s.text s.nodes)) }
     {
         match syntax_of(alloc, ends)? {
             Some(nodes) => {
                 let below = count_below(alloc, &nodes)?;
                 Ok(Some(Syntax {
                     text: ends.text(),
+                    dialect: Dialect::Weedle2,
                     nodes,
                     below,
                 }))
@@ -132,10 +202,17 @@ impl<'a> Syntax<'a> {
         self.text
     }
 
+    /// Whose rules the text is read by.
+    pub fn dialect(&self) -> Dialect
+        ensures { result ≡ self.now.dialect }
+    {
+        self.dialect
+    }
+
     /// The nodes, in preorder.
     pub fn nodes(&self) -> &[Node]
         ensures are { result.now ≡ self.now.nodes }
-        ensures front { IsFront self.now.text result.now }
+        ensures front { IsFrontIn self.now.dialect self.now.text result.now }
     {
         &self.nodes
     }
@@ -143,16 +220,17 @@ impl<'a> Syntax<'a> {
     /// Where the remaining input begins, in bytes: the end of the text, where it is read whole.
     pub fn rest(&self) -> usize
         ensures value { result ≡ rest_of self.now.nodes }
-        ensures begins { RestBegins self.now.text result }
+        ensures begins { RestBeginsIn self.now.dialect self.now.text result }
     {
         self.nodes[0].end
     }
 
-    /// The root: the node of all definitions. It has number 0.
+    /// The root: the node of the rule that [`Dialect::start`] gives. It has number 0.
     pub fn root(&self) -> usize
         ensures within { result < length self.now.nodes }
         ensures first { result ≡ 0 }
-        ensures root { node_at self.now.nodes result ≡ root_to (rest_of self.now.nodes) }
+        ensures root { node_at self.now.nodes result
+            ≡ node_to (start_of self.now.dialect) (rest_of self.now.nodes) }
     {
         let _ = &self.nodes;
         0
@@ -221,7 +299,7 @@ impl<'a> Syntax<'a> {
 
     /// The nodes that a node reads directly, in their order. It takes a step for each.
     ///
-    /// Those of the root are the definitions, with what is between them.
+    /// Those of the root are the definitions; by today's rules each is in a node of `TODAY_PIECE`.
     pub fn children(&self, node: usize) -> Children<'_>
         requires { node < length self.now.nodes }
         ensures { result ≡ children_of self.now.nodes node }

@@ -12,6 +12,7 @@ ghost use Rattle.weedle_syntax.specs.Syntax.{AreTrees};
 ghost use Rattle.weedle_syntax.specs.Table.{IsWanted};
 
 use crate::node::Node;
+use crate::on_demand::lay_on_demand;
 use crate::table::Table;
 use std::alloc::{AllocError, Global};
 use weedle_grammar::Rule;
@@ -91,7 +92,8 @@ pub(crate) fn laid_from(
 /// and says where it ends; where it fails, nothing is written.
 ///
 /// The first of them is the rule's own, of depth 0. There is no recursion, and it asks for memory
-/// for the nodes alone.
+/// for the nodes alone; for a rule of today's, which the table lacks, also for a memo of what its
+/// reading tries.
 pub fn lay_over_table(
     alloc: Global,
     nodes: &mut Vec<Node>,
@@ -99,12 +101,15 @@ pub fn lay_over_table(
     rule: Rule,
     place: usize,
 ) -> Result<Option<usize>, AllocError>
-    requires within { place ≤ length ends.now.text }
+    requires { place ≤ length ends.now.text }
     ensures end { IfOk result (λ o. HasEnd ends.now.text rule place o) }
     ensures lays { IfOk result
         (λ o. LaysNode ends.now.text rule place 0 nodes.old.items nodes.new.items o) }
 {
-    match ends.end(rule, place) {
+    if !rule.is_of_table() {
+        return lay_on_demand(alloc, nodes, ends.text(), rule, place);
+    }
+    match ends.cell(rule, place) {
         Some(end) => {
             let mut more = laid_from(alloc, &Table::of_ends(ends, rule, place), end)?;
             nodes.append(&mut more)?;

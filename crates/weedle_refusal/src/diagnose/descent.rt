@@ -24,7 +24,8 @@ ghost use Rattle.weedle_rules.specs.Cells.{HasEnd};
 ghost use Rattle.weedle_starts.specs.Tries.{TriesHere};
 ghost use Rattle.weedle_starts.specs.View.{numbers_of};
 ghost use Rattle.weedle_syntax.specs.Steps.{RowSteps, Spends, Steps};
-ghost use Rattle.weedle_refusal.specs.Noted.{IsUnmetIn, Notes};
+ghost use Rattle.weedle_refusal.specs.Diagnosis.{IsUnmetIn};
+ghost use Rattle.weedle_refusal.specs.Noted.{Notes};
 
 use crate::diagnose::noted::Furthest;
 use weedle_grammar::Rule;

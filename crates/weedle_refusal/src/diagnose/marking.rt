@@ -4,7 +4,7 @@
 //! anything tries it, and one walk over all cells suffices.
 
 ghost use Rattle.std.specs.Prelude.{◌^◌, ◌≡◌, ◌≤◌, ◌<◌, ◌+◌, ◌-◌, ◌*◌, ℕ, length, IfOk};
-ghost use Rattle.weedle_grammar.specs.written.Bound.{rule_count};
+ghost use Rattle.weedle_grammar.specs.written.Bound.{table_count};
 ghost use Rattle.weedle_refusal.specs.Marks.{AreTried, IsSet, IsMarking};
 ghost use Rattle.weedle_refusal.specs.Ways.{AreWays};
 
@@ -12,7 +12,7 @@ use crate::diagnose::marks::{behind_marks, last_set, mark};
 use crate::diagnose::tries::mark_tries;
 use crate::diagnose::ways::{Ways, lay_ways};
 use std::alloc::{AllocError, Global};
-use weedle_grammar::{RULES, Rule, rule_of};
+use weedle_grammar::{Rule, TABLE_RULES, rule_of};
 use weedle_rules::Ends;
 
 /// Marks what the rule of a marked cell tries. The last word may have cells of no place.
@@ -26,15 +26,15 @@ fn close_cell(
 )
     requires last { last ≡ length ends.now.text }
     requires fits { 64 * length marks.old < 2 ^ 64 }
-    requires ways { AreWays ways.now rule_count }
+    requires ways { AreWays ways.now table_count }
     requires within { cell < 64 * length marks.old }
     requires marked { IsSet marks.old cell }
     requires before { IsMarking ends.now.text start marks.old (cell + 1) }
     ensures { IsMarking ends.now.text start marks.new cell }
 {
-    let row = cell / RULES;
+    let row = cell / TABLE_RULES;
     if row <= last {
-        let rule = rule_of((cell % RULES) as u16);
+        let rule = rule_of((cell % TABLE_RULES) as u16);
         mark_tries(marks, ends, ways, last, rule, last - row);
     }
 }
@@ -44,7 +44,7 @@ fn mark_all(marks: &mut [u64], ends: &Ends<'_>, last: usize, start: usize)
     requires last { last ≡ length ends.now.text }
     requires within { start ≤ last }
     requires fits { 64 * length marks.old < 2 ^ 64 }
-    requires laid { (last - start) * rule_count + rule_count ≤ 64 * length marks.old }
+    requires laid { (last - start) * table_count + table_count ≤ 64 * length marks.old }
     requires clear { (cell : ℕ) → IsSet marks.old cell → ⊥ }
     ensures { AreTried ends.now.text start marks.new }
 {
@@ -74,10 +74,10 @@ pub(crate) fn marks_of_tried(
     requires small { last < 2 ^ 64 - 1 }
     ensures fits { IfOk result (λ marks. 64 * length marks.items < 2 ^ 64) }
     ensures laid { IfOk result
-        (λ marks. (last - start) * rule_count + rule_count ≤ 64 * length marks.items) }
+        (λ marks. (last - start) * table_count + table_count ≤ 64 * length marks.items) }
     ensures are { IfOk result (λ marks. AreTried ends.now.text start marks.items) }
 {
-    let Some(cells) = (last - start + 1).checked_mul(RULES) else {
+    let Some(cells) = (last - start + 1).checked_mul(TABLE_RULES) else {
         return Err(AllocError);
     };
     let Some(rounded) = cells.checked_add(63) else {

@@ -23,7 +23,7 @@ ghost use Rattle.weedle_rules.specs.Cells.{cell_number};
 ghost use Rattle.weedle_starts.specs.Tries.{SameAttempt};
 ghost use Rattle.weedle_refusal.specs.Marks.{HasBit, IsSet, IsMarked, Adds, IsLastSet, IsClear};
 
-use weedle_grammar::{RULES, Rule};
+use weedle_grammar::{Rule, TABLE_RULES};
 
 /// Whether the cell's bit is set.
 #[inline(always)]
@@ -80,7 +80,7 @@ fn cell_of(last: usize, rule: Rule, place: usize) -> usize
     requires fits { cell_number last rule place < 2 ^ 64 }
     ensures { result ≡ cell_number last rule place }
 {
-    (last - place) * RULES + rule.number() as usize
+    (last - place) * TABLE_RULES + rule.number() as usize
 }
 
 /// Whether the rule is marked at the place.

@@ -15,7 +15,7 @@ use std::alloc::{AllocError, Global};
 use weedle_grammar::{RULES, Rule, rule_of};
 
 /// How many words have a bit for each rule.
-const WORDS: usize = 7;
+const WORDS: usize = 9;
 
 /// The furthest place where something failed so far, and rules that failed there, a bit for each,
 /// in which all is that failed there.

@@ -2,17 +2,19 @@
 
 ghost use Rattle.std.specs.Prelude.{◌≤◌, ℕ, List, length, IfOk};
 ghost use Rattle.weedle_grammar.specs.written.Bound.{rule_count};
+ghost use Rattle.weedle_syntax.specs.Dialects.{start_of};
 ghost use Rattle.weedle_syntax.specs.Steps.{Spends};
-ghost use Rattle.weedle_refusal.specs.Descent.{DescentSteps, EachSteps};
+ghost use Rattle.weedle_refusal.specs.Descent.{DescentStepsIn, EachSteps};
 ghost use Rattle.weedle_refusal.specs.Noted.{AreOpened, IsFurthestFrom};
 
 use crate::diagnose::descent::{GaveUp, read};
 use crate::diagnose::noted::Furthest;
-use weedle_grammar::{RULES, Rule, rule_of};
+use weedle_grammar::{RULES, rule_of};
 use weedle_starts::source::Source;
+use weedle_syntax::Dialect;
 
-/// The furthest place at which something fails where definitions are read from `start` on, and the
-/// rules without parts that fail there.
+/// The furthest place at which something fails where definitions are read from `start` on by the
+/// rules of a dialect, and the rules without parts that fail there.
 ///
 /// At most `left` rules are tried, and at most `depth` in one another.
 pub(crate) fn furthest_from(
@@ -20,14 +22,15 @@ pub(crate) fn furthest_from(
     start: usize,
     left: &mut usize,
     depth: usize,
+    dialect: Dialect,
 ) -> Result<Furthest, GaveUp>
     requires { start ≤ length text.now }
-    ensures found { IfOk result (IsFurthestFrom text.now start) }
+    ensures found { IfOk result (IsFurthestFrom text.now (start_of dialect) start) }
     ensures steps { IfOk result
-        (λ found. Spends (DescentSteps text.now start found.place) left.old left.new) }
+        (λ found. Spends (DescentStepsIn dialect text.now start found.place) left.old left.new) }
 {
     let mut first = Furthest::new(start, false);
-    read(&mut first, left, text, Rule::DEFINITIONS, start, depth)?;
+    read(&mut first, left, text, dialect.start(), start, depth)?;
     let found = opened(&first, left, text, depth)?;
     Ok(found)
 }

@@ -1,16 +1,20 @@
-//! Descent, and the table where descent would take too long or too much of the stack.
+//! Descent, and the table where descent would take too long or too much of the stack: by weedle2's
+//! rules, since a table has no others.
 
-ghost use Rattle.std.specs.Prelude.{◌≤◌, ◌+◌, ◌-◌, ◌*◌, length, IfOk, IfSome};
-ghost use Rattle.weedle_refusal.specs.Descent.{AtMostSteps, DescentSteps};
-ghost use Rattle.weedle_refusal.specs.Diagnosis.{IsDiagnosis};
+ghost use Rattle.std.specs.Prelude.{◌≡◌, ◌≤◌, ◌+◌, ◌-◌, ◌*◌, length, IfErr, IfOk, IfSome};
+ghost use Rattle.weedle_refusal.specs.Descent.{AtMostSteps, DescentSteps, DescentStepsIn};
+ghost use Rattle.weedle_refusal.specs.Diagnosis.{IsDiagnosis, IsDiagnosisIn};
+ghost use Rattle.weedle_refusal.specs.declared.error.DialectError.TheVariants.{Memory};
+ghost use Rattle.weedle_syntax.specs.declared.dialect.Dialect.TheVariants.{Weedle2};
 ghost use Rattle.weedle_syntax.specs.Steps.{Spends};
 
 use crate::diagnose::diagnosis::{Diagnosis, diagnose_from};
 use crate::diagnose::opened::furthest_from;
+use crate::error::DialectError;
 use std::alloc::{AllocError, Global};
 use weedle_rules::Ends;
 use weedle_starts::source::Source;
-use weedle_syntax::Limits;
+use weedle_syntax::{Dialect, Limits};
 
 /// How many rules descent may try for each byte of the text from the place on. For what people
 /// write it tries 2 to 5.
@@ -77,9 +81,27 @@ pub fn diagnose_within(
     ensures steps { IfOk result (λ found. IfSome found
         (λ d. Spends (DescentSteps text.now start d.place) limits.old.steps limits.new.steps)) }
 {
+    diagnose_within_in(alloc, text, start, limits, Dialect::Weedle2)
+}
+
+/// The same as [`diagnose_within`], by the rules of a dialect.
+pub(crate) fn diagnose_within_in(
+    alloc: Global,
+    text: &str,
+    start: usize,
+    limits: &mut Limits,
+    dialect: Dialect,
+) -> Result<Option<Diagnosis>, AllocError>
+    requires { start ≤ length text.now }
+    ensures is { IfOk result (λ found. IfSome found
+        (λ d. IsDiagnosisIn dialect text.now start d.place d.expected.items)) }
+    ensures steps { IfOk result (λ found. IfSome found
+        (λ d. Spends (DescentStepsIn dialect text.now start d.place)
+        limits.old.steps limits.new.steps)) }
+{
     let source = Source::new(text.as_bytes());
     let depth = limits.depth;
-    match furthest_from(&source, start, &mut limits.steps, depth) {
+    match furthest_from(&source, start, &mut limits.steps, depth, dialect) {
         Ok(furthest) => {
             let expected = furthest.rules(alloc)?;
             Ok(Some(Diagnosis {
@@ -109,4 +131,61 @@ pub fn diagnose_quick(alloc: Global, text: &str, start: usize) -> Result<Diagnos
     }
     let ends = Ends::new(alloc, text)?;
     diagnose_from(alloc, &ends, start)
+}
+
+/// The same as [`diagnose_quick`], by the rules of a dialect.
+///
+/// For `[Exposed=*] interface A { attribute long x };` it says 43 by today's rules, where a `;`
+/// would go on; by weedle2's it says 9, where the `*` is.
+///
+/// By weedle2's rules it costs what [`diagnose_quick`] costs. By today's it reads by descent alone,
+/// as [`diagnose_by_descent`] does, and where that gives up, the answer is
+/// [`DialectError::TooDeep`].
+pub fn diagnose_in(
+    alloc: Global,
+    text: &str,
+    start: usize,
+    dialect: Dialect,
+) -> Result<Diagnosis, DialectError>
+    requires { start ≤ length text.now }
+    ensures is { IfOk result
+        (λ d. IsDiagnosisIn dialect text.now start d.place d.expected.items) }
+
+    // No text is too deep for weedle2's rules.
+    ensures deep { dialect ≡ Weedle2 → IfErr result (λ e. e ≡ Memory) }
+{
+    let mut limits = limits_of(text.len() - start);
+    if let Some(diagnosis) = diagnose_within_in(alloc, text, start, &mut limits, dialect)? {
+        return Ok(diagnosis);
+    }
+    beyond_descent(alloc, text, start, dialect)
+}
+
+/// The same where descent gives up: over the table, if the dialect has one.
+fn beyond_descent(
+    alloc: Global,
+    text: &str,
+    start: usize,
+    dialect: Dialect,
+) -> Result<Diagnosis, DialectError>
+    requires { start ≤ length text.now }
+    ensures is { IfOk result
+        (λ d. IsDiagnosisIn dialect text.now start d.place d.expected.items) }
+    ensures deep { dialect ≡ Weedle2 → IfErr result (λ e. e ≡ Memory) }
+{
+    match dialect {
+        Dialect::Weedle2 => over_table(alloc, text, start),
+        Dialect::Today => Err(DialectError::TooDeep),
+    }
+}
+
+/// The same over the packrat table.
+fn over_table(alloc: Global, text: &str, start: usize) -> Result<Diagnosis, DialectError>
+    requires { start ≤ length text.now }
+    ensures is { IfOk result (λ d. IsDiagnosis text.now start d.place d.expected.items) }
+    ensures memory { IfErr result (λ e. e ≡ Memory) }
+{
+    let ends = Ends::new(alloc, text)?;
+    let diagnosis = diagnose_from(alloc, &ends, start)?;
+    Ok(diagnosis)
 }

@@ -1,7 +1,7 @@
 //! What a rule tries at a place is marked, by its row: a function for each kind of row.
 
 ghost use Rattle.std.specs.Prelude.{◌^◌, ◌≡◌, ◌<◌, ◌*◌, length};
-ghost use Rattle.weedle_grammar.specs.written.Bound.{rule_count};
+ghost use Rattle.weedle_grammar.specs.written.Bound.{table_count};
 ghost use Rattle.weedle_starts.specs.Tries.{Tries};
 ghost use Rattle.weedle_refusal.specs.Marks.{HasBit, Adds};
 ghost use Rattle.weedle_refusal.specs.Ways.{AreWays};
@@ -25,7 +25,7 @@ pub(crate) fn mark_tries(
 )
     requires last { last ≡ length ends.now.text }
     requires fits { 64 * length marks.old < 2 ^ 64 }
-    requires ways { AreWays ways.now rule_count }
+    requires ways { AreWays ways.now table_count }
     requires here { HasBit last (length marks.old) rule place }
     ensures { Adds last marks.old marks.new (Tries ends.now.text rule place) }
 {

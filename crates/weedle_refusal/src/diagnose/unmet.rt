@@ -16,7 +16,7 @@ ghost use Rattle.std.specs.Prelude.{
   IfOk,
 };
 ghost use Rattle.std.specs.List.{Contains};
-ghost use Rattle.weedle_grammar.specs.written.Bound.{rule_count};
+ghost use Rattle.weedle_grammar.specs.written.Bound.{table_count};
 ghost use Rattle.weedle_grammar.specs.written.Table.{row_of as the_row_of};
 ghost use Rattle.weedle_starts.specs.Tries.{IsUnmet, has_no_parts as lacks_parts};
 ghost use Rattle.weedle_refusal.specs.Marks.{AreTried, HasBit};
@@ -24,7 +24,7 @@ ghost use Rattle.weedle_refusal.specs.Diagnosis.{IsRising};
 
 use crate::diagnose::marks::is_marked;
 use std::alloc::{AllocError, Global};
-use weedle_grammar::{RULES, Row, Rule, row_of, rule_of};
+use weedle_grammar::{Row, Rule, TABLE_RULES, row_of, rule_of};
 use weedle_rules::Ends;
 
 /// Whether the rule's row has no parts.
@@ -58,7 +58,7 @@ fn is_unmet(
     if !has_no_parts(rule) {
         return false;
     }
-    match ends.end(rule, place) {
+    match ends.cell(rule, place) {
         Some(_) => false,
         None => true,
     }
@@ -76,14 +76,14 @@ pub(crate) fn unmet_at(
     requires last { last ≡ length ends.now.text }
     requires fits { 64 * length marks.now < 2 ^ 64 }
     requires marked { AreTried ends.now.text start marks.now }
-    requires inside { (r : ℕ) → r < rule_count → HasBit last (length marks.now) r place }
+    requires inside { (r : ℕ) → r < table_count → HasBit last (length marks.now) r place }
     ensures exact { IfOk result
         (λ found. (r : ℕ) → Contains found.items r
-        ↔ ((r < rule_count) × IsUnmet ends.now.text start r place)) }
+        ↔ ((r < table_count) × IsUnmet ends.now.text start r place)) }
     ensures rising { IfOk result (λ found. IsRising found.items) }
 {
     let mut found = Vec::new(alloc);
-    for number in 0..RULES {
+    for number in 0..TABLE_RULES {
         let rule = rule_of(number as u16);
         if is_unmet(marks, ends, last, start, rule, place) {
             found.push(rule)?;
@@ -99,14 +99,14 @@ fn is_unmet_cell(marks: &[u64], ends: &Ends<'_>, last: usize, start: usize, cell
     requires marked { AreTried ends.now.text start marks.now }
     requires within { cell < 64 * length marks.now }
     ensures { IsTrue result
-        ↔ ((cell / RULES ≤ last)
-        × IsUnmet ends.now.text start (cell % RULES) (last - cell / RULES)) }
+        ↔ ((cell / TABLE_RULES ≤ last)
+        × IsUnmet ends.now.text start (cell % TABLE_RULES) (last - cell / TABLE_RULES)) }
 {
-    let row = cell / RULES;
+    let row = cell / TABLE_RULES;
     if row > last {
         return false;
     }
-    let rule = rule_of((cell % RULES) as u16);
+    let rule = rule_of((cell % TABLE_RULES) as u16);
     is_unmet(marks, ends, last, start, rule, last - row)
 }
 
@@ -129,7 +129,7 @@ pub(crate) fn furthest_place(marks: &[u64], ends: &Ends<'_>, last: usize, start:
             cell = word * 64 + 64;
         } else {
             if is_unmet_cell(marks, ends, last, start, cell) {
-                return last - cell / RULES;
+                return last - cell / TABLE_RULES;
             }
             cell += 1;
         }

@@ -1,10 +1,11 @@
 //! What the rules try, in the order of their numbers.
 
-ghost use Rattle.weedle_grammar.specs.written.Bound.{rule_count};
+ghost use Rattle.std.specs.Prelude.{◌<◌};
+ghost use Rattle.weedle_grammar.specs.written.Bound.{table_count};
 ghost use Rattle.weedle_grammar.specs.written.Table.{row_of as the_row_of};
 ghost use Rattle.weedle_refusal.specs.Ways.{IsWay, AreWays};
 
-use weedle_grammar::{Parts, RULES, Row, Rule, row_of, rule_of};
+use weedle_grammar::{Parts, Row, Rule, TABLE_RULES, row_of, rule_of};
 
 /// What a rule tries: its row, with rules as numbers. A row without parts tries nothing, so all of
 /// them are `Plain`.
@@ -23,8 +24,8 @@ pub(crate) enum Way<P> {
     If(P, usize, u16),
 }
 
-/// The ways of all rules, by number.
-pub(crate) type Ways = [Way<Parts>; RULES];
+/// The ways of the table's rules, by number.
+pub(crate) type Ways = [Way<Parts>; TABLE_RULES];
 
 /// The way of the rule.
 fn way_of(rule: Rule) -> Way<Parts>
@@ -43,15 +44,15 @@ fn way_of(rule: Rule) -> Way<Parts>
     }
 }
 
-/// The ways of all rules.
+/// The ways of the table's rules.
 ///
 /// `row_of` compares numbers until it finds a row, which takes longer than what is done with it. So
 /// each rule is asked for once. The array takes some 15 kB of the stack, and no other memory.
 pub(crate) fn lay_ways() -> Ways
-    ensures { AreWays result rule_count }
+    ensures { AreWays result table_count }
 {
-    let mut ways = [Way::Plain; RULES];
-    for number in 0..RULES {
+    let mut ways = [Way::Plain; TABLE_RULES];
+    for number in 0..TABLE_RULES {
         ways[number] = way_of(rule_of(number as u16));
     }
     ways
@@ -60,7 +61,8 @@ pub(crate) fn lay_ways() -> Ways
 /// The way of the rule.
 #[inline(always)]
 pub(crate) fn way_in(ways: &Ways, rule: Rule) -> Way<Parts>
-    requires { AreWays ways.now rule_count }
+    requires low { rule < table_count }
+    requires ways { AreWays ways.now table_count }
     ensures { IsWay result (the_row_of rule) }
 {
     ways[rule.number() as usize]

@@ -1,15 +1,16 @@
 //! A definition that is read again with a change.
 
-ghost use Rattle.std.specs.Prelude.{IfOk, IsTrue};
+ghost use Rattle.std.specs.Prelude.{IfOk, IsTrue, length};
 ghost use Rattle.weedle_refusal.specs.Hint.{LeavesLess};
-ghost use Rattle.weedle_syntax.specs.Syntax.{IsWhole};
+ghost use Rattle.weedle_rules.specs.Outcomes.{EndsAt};
+ghost use Rattle.weedle_syntax.specs.Dialects.{IsWholeIn};
 
-use crate::diagnose::diagnose_within;
+use crate::diagnose::diagnose_within_in;
 use crate::hint::unread::Unread;
 use std::alloc::{AllocError, Global};
 use weedle_grammar::Rule;
 use weedle_starts::source::Source;
-use weedle_syntax::{Limits, lay_by_descent};
+use weedle_syntax::{Dialect, Limits, lay_by_descent};
 
 /// How many rules are tried for each byte of a definition, with all its changes together. For what
 /// people write a reading takes two a byte, and with most changes it stops near the syntax error.
@@ -44,9 +45,17 @@ impl Trials {
         Trials { alloc, left }
     }
 
-    /// Whether a text is read whole. No where descent gives up.
-    pub(crate) fn is_whole(&mut self, text: &str) -> Result<bool, AllocError>
-        ensures { IfOk result (λ whole. IsTrue whole → IsWhole text.now) }
+    /// Whether a text is read whole by the rules of a dialect. No where descent gives up.
+    pub(crate) fn is_whole(&mut self, text: &str, dialect: Dialect) -> Result<bool, AllocError>
+        ensures { IfOk result (λ whole. IsTrue whole → IsWholeIn dialect text.now) }
+    {
+        let whole = self.reads_all(text, dialect.start())?;
+        Ok(whole)
+    }
+
+    /// Whether a rule reads all of a text. No where descent gives up.
+    fn reads_all(&mut self, text: &str, rule: Rule) -> Result<bool, AllocError>
+        ensures { IfOk result (λ all. IsTrue all → EndsAt text.now rule 0 (length text.now)) }
     {
         let source = Source::new(text.as_bytes());
         let mut limits = Limits {
@@ -54,7 +63,7 @@ impl Trials {
             depth: DEPTH,
         };
         let mut nodes = Vec::new(self.alloc);
-        let found = lay_by_descent(&mut nodes, &source, Rule::DEFINITIONS, 0, &mut limits);
+        let found = lay_by_descent(&mut nodes, &source, rule, 0, &mut limits);
         self.left = limits.steps;
         match found {
             Ok(end) => Ok(end == Some(text.len())),
@@ -67,16 +76,21 @@ impl Trials {
         }
     }
 
-    /// Whether the furthest place of a text leaves fewer bytes behind it than so many. No where
-    /// descent gives up.
-    pub(crate) fn leaves_less(&mut self, text: &str, left: usize) -> Result<bool, AllocError>
-        ensures { IfOk result (λ less. IsTrue less → LeavesLess text.now left) }
+    /// Whether the furthest place of a text leaves fewer bytes behind it than so many, by the rules
+    /// of a dialect. No where descent gives up.
+    pub(crate) fn leaves_less(
+        &mut self,
+        text: &str,
+        left: usize,
+        dialect: Dialect,
+    ) -> Result<bool, AllocError>
+        ensures { IfOk result (λ less. IsTrue less → LeavesLess dialect text.now left) }
     {
         let mut limits = Limits {
             steps: self.left,
             depth: DEPTH_OF_PLACE,
         };
-        let found = diagnose_within(self.alloc, text, 0, &mut limits)?;
+        let found = diagnose_within_in(self.alloc, text, 0, &mut limits, dialect)?;
         self.left = limits.steps;
         match found {
             Some(diagnosis) => Ok(text.len().saturating_sub(diagnosis.place) < left),

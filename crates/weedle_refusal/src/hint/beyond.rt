@@ -20,7 +20,7 @@ pub(crate) fn comes_beyond(
     requires order { unread.now.place ≤ from }
     requires within { from ≤ length unread.now.raw.now }
     ensures { IfOk result (λ beyond. IsTrue beyond
-        → ComesBeyond unread.now.raw.now unread.now.start unread.now.place
+        → ComesBeyond unread.now.dialect unread.now.raw.now unread.now.start unread.now.place
         change.entry.at change.entry.taken change.entry.bytes.now) }
 {
     let Change { at, taken, .. } = change;
@@ -37,6 +37,6 @@ pub(crate) fn comes_beyond(
     let Some(text) = changed(trials.alloc, raw, unread.start, end, change)? else {
         return Ok(false);
     };
-    let less = trials.leaves_less(text.as_str(), end - next)?;
+    let less = trials.leaves_less(text.as_str(), end - next, unread.dialect)?;
     Ok(less)
 }

@@ -1,7 +1,7 @@
 //! Whether a change is right: each that is a hint was tried.
 
 ghost use Rattle.std.specs.Prelude.{◌≤◌, IfOk, IsTrue, length};
-ghost use Rattle.weedle_refusal.specs.Hint.{ArePair, Helps, IsHint, IsMistyped, IsSign};
+ghost use Rattle.weedle_refusal.specs.Hint.{ArePair, Helps, IsHintIn, IsMistyped, IsSign};
 
 use crate::hint::Hint;
 use crate::hint::again::Trials;
@@ -35,7 +35,7 @@ pub(crate) fn helps(
 ) -> Result<bool, AllocError>
     requires { unread.now.place ≤ length unread.now.raw.now }
     ensures { IfOk result (λ right. IsTrue right
-        → IsHint unread.now.raw.now unread.now.start unread.now.place hint) }
+        → IsHintIn unread.now.dialect unread.now.raw.now unread.now.start unread.now.place hint) }
 {
     match hint {
         Hint::Keyword {
@@ -73,7 +73,7 @@ fn change_helps(
     requires order { unread.now.place ≤ from }
     requires within { from ≤ length unread.now.raw.now }
     ensures { IfOk result (λ right. IsTrue right
-        → Helps unread.now.raw.now unread.now.start unread.now.place
+        → Helps unread.now.dialect unread.now.raw.now unread.now.start unread.now.place
         change.entry.at change.entry.taken change.entry.bytes.now) }
 {
     match aim {
@@ -93,7 +93,7 @@ fn keyword_helps(
 ) -> Result<bool, AllocError>
     requires { unread.now.place ≤ length unread.now.raw.now }
     ensures { IfOk result (λ right. IsTrue right
-        → IsHint unread.now.raw.now unread.now.start unread.now.place
+        → IsHintIn unread.now.dialect unread.now.raw.now unread.now.start unread.now.place
         (Hint.Keyword at taken keyword.entry)) }
 {
     if !is_mistyped(unread.raw.as_bytes(), at, taken, keyword) {
@@ -131,7 +131,7 @@ fn missing_helps(
 ) -> Result<bool, AllocError>
     requires { unread.now.place ≤ length unread.now.raw.now }
     ensures { IfOk result (λ right. IsTrue right
-        → IsHint unread.now.raw.now unread.now.start unread.now.place
+        → IsHintIn unread.now.dialect unread.now.raw.now unread.now.start unread.now.place
         (Hint.Missing at sign.entry)) }
 {
     if !is_sign(sign) {
@@ -156,7 +156,7 @@ fn extra_helps(
 ) -> Result<bool, AllocError>
     requires { unread.now.place ≤ length unread.now.raw.now }
     ensures { IfOk result (λ right. IsTrue right
-        → IsHint unread.now.raw.now unread.now.start unread.now.place
+        → IsHintIn unread.now.dialect unread.now.raw.now unread.now.start unread.now.place
         (Hint.Extra at sign.entry)) }
 {
     if !is_sign(sign) || !stand_at(sign.as_bytes(), unread.raw.as_bytes(), at) {
@@ -182,7 +182,7 @@ fn other_sign_helps(
 ) -> Result<bool, AllocError>
     requires { unread.now.place ≤ length unread.now.raw.now }
     ensures { IfOk result (λ right. IsTrue right
-        → IsHint unread.now.raw.now unread.now.start unread.now.place
+        → IsHintIn unread.now.dialect unread.now.raw.now unread.now.start unread.now.place
         (Hint.WrongSign at found.entry sign.entry)) }
 {
     if !are_pair(found, sign) || !stand_at(found.as_bytes(), unread.raw.as_bytes(), at) {
@@ -208,7 +208,7 @@ fn order_helps(
 ) -> Result<bool, AllocError>
     requires { unread.now.place ≤ length unread.now.raw.now }
     ensures { IfOk result (λ right. IsTrue right
-        → IsHint unread.now.raw.now unread.now.start unread.now.place
+        → IsHintIn unread.now.dialect unread.now.raw.now unread.now.start unread.now.place
         (Hint.WordOrder at taken next next_taken)) }
 {
     match exchanged(trials.alloc, unread.raw, at, taken, next, next_taken)? {
@@ -236,7 +236,7 @@ fn docstring_helps(
 ) -> Result<bool, AllocError>
     requires { unread.now.place ≤ length unread.now.raw.now }
     ensures { IfOk result (λ right. IsTrue right
-        → IsHint unread.now.raw.now unread.now.start unread.now.place
+        → IsHintIn unread.now.dialect unread.now.raw.now unread.now.start unread.now.place
         (Hint.Docstring at taken)) }
 {
     if !are_doc_lines(unread.raw, at, taken) {

@@ -1,7 +1,7 @@
 //! What can be said of a text without a change of it.
 
 ghost use Rattle.std.specs.Prelude.{◌≤◌, IsTrue, codes, length};
-ghost use Rattle.weedle_refusal.specs.Hint.{IsHint, IsOpenString, IsSplitString, StandAt};
+ghost use Rattle.weedle_refusal.specs.Hint.{IsHintIn, IsOpenString, IsSplitString, StandAt};
 ghost use Rattle.weedle_refusal.specs.Inside.{IsOutside};
 
 use crate::hint::Hint;
@@ -10,6 +10,7 @@ use crate::hint::stands::{has_quote, is_trivia, stand_at};
 use crate::hint::tokens::{Kind, Token};
 use crate::hint::unread::Unread;
 use memchr::memchr;
+use weedle_syntax::Dialect;
 
 /// What opens a string.
 const QUOTE: &[u8] = b"\"";
@@ -50,11 +51,12 @@ fn split_string(unread: &Unread<'_>) -> Option<usize> {
     Some(token.start)
 }
 
-/// Whether the hint says what is in the text, or lacks in it, and that is so.
-pub(crate) fn is_fact(raw: &str, start: usize, place: usize, hint: Hint) -> bool
+/// Whether the hint says what is in the text, or lacks in it, and that is so, by whatever rules.
+pub(crate) fn is_fact(raw: &str, start: usize, place: usize, hint: Hint, dialect: Dialect) -> bool
     requires { place ≤ length raw.now }
-    ensures { IsTrue result → IsHint raw.now start place hint }
+    ensures { IsTrue result → IsHintIn dialect raw.now start place hint }
 {
+    let _ = dialect;
     let bytes = raw.as_bytes();
     match hint {
         Hint::OpenString { place: at } => is_open(bytes, start, place, at),

@@ -1,4 +1,4 @@
-//! The keywords of the grammar, by its rows.
+//! The keywords of weedle2's grammar, by its rows.
 
 ghost use Rattle.std.specs.Prelude.{◌≡◌, IsTrue};
 ghost use Rattle.weedle_refusal.specs.Hint.{IsKeyword};
@@ -6,12 +6,12 @@ ghost use Rattle.weedle_syntax.specs.Kinds.{has_letter as the_has_letter};
 
 use std::alloc::{AllocError, Global};
 use std::str;
-use weedle_grammar::{Class, RULES, Row, holds, row_of, rule_of};
+use weedle_grammar::{Class, Row, TABLE_RULES, holds, row_of, rule_of};
 
 /// The keywords, in the order of their rules.
 pub(crate) fn keywords(alloc: Global) -> Result<Vec<&'static str>, AllocError> {
     let mut keywords = Vec::new(alloc);
-    for number in 0..RULES as u16 {
+    for number in 0..TABLE_RULES as u16 {
         if let Row::Bytes(bytes) = row_of(rule_of(number)) {
             if has_letter(bytes) {
                 if let Ok(keyword) = str::from_utf8(bytes) {
@@ -27,7 +27,7 @@ pub(crate) fn keywords(alloc: Global) -> Result<Vec<&'static str>, AllocError> {
 pub(crate) fn is_keyword(word: &str) -> bool
     ensures { IsTrue result → IsKeyword word.now }
 {
-    for number in 0..RULES as u16 {
+    for number in 0..TABLE_RULES as u16 {
         if let Row::Bytes(bytes) = row_of(rule_of(number)) {
             if has_letter(bytes) && word.as_bytes() == bytes {
                 return true;

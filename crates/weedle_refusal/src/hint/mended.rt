@@ -30,7 +30,7 @@ pub(crate) fn is_mended(
 ) -> Result<bool, AllocError>
     requires { unread.now.place ≤ length unread.now.raw.now }
     ensures { IfOk result (λ mended. IsTrue mended
-        → IsMended unread.now.raw.now unread.now.start unread.now.place
+        → IsMended unread.now.dialect unread.now.raw.now unread.now.start unread.now.place
         change.entry.at change.entry.taken change.entry.bytes.now) }
 {
     let Change { at, taken, .. } = change;
@@ -46,7 +46,7 @@ pub(crate) fn is_mended(
     let Some(text) = changed(trials.alloc, raw, unread.start, end, change)? else {
         return Ok(false);
     };
-    let whole = trials.is_whole(text.as_str())?;
+    let whole = trials.is_whole(text.as_str(), unread.dialect)?;
     Ok(whole)
 }
 

@@ -2,6 +2,7 @@
 
 use crate::expected::Expected;
 use crate::hint::tokens::Token;
+use weedle_syntax::Dialect;
 
 /// How far behind the place the end of a definition is looked for.
 pub(crate) const LONGEST: usize = 65_536;
@@ -19,6 +20,8 @@ pub(crate) struct Unread<'a> {
     pub(crate) expected: &'a [Expected],
     /// Its words and signs that begin up to that place.
     pub(crate) tokens: &'a [Token],
+    /// The rules that it is read by.
+    pub(crate) dialect: Dialect,
 }
 
 impl<'a> Unread<'a> {

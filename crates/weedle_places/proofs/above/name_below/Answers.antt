@@ -1,7 +1,8 @@
 use Rattle.std.proofs.Common.{◌≡◌, ℕ, ◌+◌, ◌<◌, ◌++◌, ◌∷◌, [], List, length, true, sym, subst, ◌∙◌, ap, arith, length-append, get_or}
 use Rattle.std.proofs.lemmas.List.{get_or_default}
 use Rattle.weedle_syntax.specs.Tree.{node_at}
-use Rattle.weedle_syntax.specs.Syntax.{IsFront, root_to}
+use Rattle.weedle_syntax.specs.Dialects.{IsFrontIn}
+use Rattle.weedle_syntax.specs.Syntax.{root_to}
 use Rattle.weedle_syntax.specs.declared.node.Node.{Node}
 use Rattle.weedle_places.specs.declared.above.Above.{Above}
 use Rattle.weedle_places.specs.Above.{IsAbove, AreAbove}
@@ -39,8 +40,8 @@ rule_found nodes ns k n e l = ap (λ s. (get_or s k n).rule) e ∙ ap (λ m. m.r
 pub unreachable-requires : goal.unreachable-requires
 unreachable-requires c =
     let ns = c.args.syntax.now.nodes in
-    let front = subst (IsFront c.args.syntax.now.text) c.nodes-nodes.ensures.are c.nodes-nodes.ensures.front in
-    let deep = name_is_deep c.args.syntax.now.text ns front c.args.i c.requires.within c.requires.name in
+    let front = subst (IsFrontIn c.args.syntax.now.dialect c.args.syntax.now.text) c.nodes-nodes.ensures.are c.nodes-nodes.ensures.front in
+    let deep = name_is_deep c.args.syntax.now.dialect c.args.syntax.now.text ns front c.args.i c.requires.within c.requires.name in
     let many = c.requires.many in
     let items = c.args.above.now.ok.0 in
     let some = c.in_default.ensures.variant.1 (omega (arith, deep, many)) in
@@ -70,14 +71,14 @@ bounds-nodes-last-in-Some c =
 pub unreachable-requires-in_default-role_of : goal.unreachable-requires-in_default-role_of
 unreachable-requires-in_default-role_of c =
     let ns = c.args.syntax.now.nodes in
-    let front = subst (IsFront c.args.syntax.now.text) c.nodes-nodes.ensures.are c.nodes-nodes.ensures.front in
+    let front = subst (IsFrontIn c.args.syntax.now.dialect c.args.syntax.now.text) c.nodes-nodes.ensures.are c.nodes-nodes.ensures.front in
     let h = last_of ns c.args.i c.args.above.now.items c.pop.new.self.items c.in-Some.last c.in-Some.ensures.items c.requires.above c.requires.many in
     let b = h.is.before in
     let deep = h.deep in
     let within = c.requires.within in
     let child = child_is ns c.args.i (length c.pop.new.self.items) c.in-Some.last h.is (omega arith) within deep in
     let here : c.in-Some.last.node < length ns = omega arith in
-    let role = child_role c.args.syntax.now.text ns front c.in-Some.last.node here c.args.i c.in-Some.last.named child c.requires.name in
+    let role = child_role c.args.syntax.now.dialect c.args.syntax.now.text ns front c.in-Some.last.node here c.args.i c.in-Some.last.named child c.requires.name in
     c.in_default-role_of.not-Some role.0
     (c.role_of.ensures ∙ ap (λ r. role_of r c.in-Some.last.named) (rule_found c.nodes-nodes.result.now ns c.in-Some.last.node _ c.nodes-nodes.ensures.are here) ∙ role.1)
 

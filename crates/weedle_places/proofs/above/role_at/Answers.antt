@@ -1,7 +1,7 @@
 use Rattle.std.proofs.Common.{◌≡◌, ◌==◌, ◌+◌, get_or, length, false, sym, subst, ◌∙◌, ap, arith}
 use Rattle.std.proofs.lemmas.List.{length-take-le}
 use Rattle.weedle_grammar.specs.written.Table.Leaves.{IDENTIFIER}
-use Rattle.weedle_syntax.specs.Syntax.{IsFront}
+use Rattle.weedle_syntax.specs.Dialects.{IsFrontIn}
 use Rattle.weedle_syntax.proofs.BelowFacts.{looked_at}
 use Rattle.weedle_places.specs.Above.{AreAbove}
 use Rattle.weedle_places.specs.Names.{is_name}
@@ -16,9 +16,9 @@ name_below-requires-clause-above c =
 pub name_below-requires-clause-many : goal.name_below-requires-clause-many
 name_below-requires-clause-many c =
     let ns = c.args.syntax.now.nodes in
-    let front = subst (IsFront c.args.syntax.now.text) c.nodes.ensures.are c.nodes.ensures.front in
+    let front = subst (IsFrontIn c.args.syntax.now.dialect c.args.syntax.now.text) c.nodes.ensures.are c.nodes.ensures.front in
     let node = looked_at ns c.args.i c.index-nodes-i.result c.requires.within (subst (λ s. c.index-nodes-i.result ≡ get_or s c.args.i c.index-nodes-i.result) c.nodes.ensures.are c.index-nodes-i.is) in
-    let deep = open_deep c.args.syntax.now.text ns front c.args.i c.requires.within c.args.above.now.items c.requires.open in
+    let deep = open_deep c.args.syntax.now.dialect c.args.syntax.now.text ns front c.args.i c.requires.within c.args.above.now.items c.requires.open in
     let same = ap (λ n. n.depth) node in
     ap length c.truncate.ensures.items ∙ length-take-le c.index-nodes-i.result.depth c.args.above.now.items (omega arith) ∙ same
 
@@ -26,9 +26,9 @@ pub returns-clause-open : goal.returns-clause-open
 returns-clause-open c =
     let ns = c.args.syntax.now.nodes in
     let i = c.args.i in
-    let front = subst (IsFront c.args.syntax.now.text) c.nodes.ensures.are c.nodes.ensures.front in
+    let front = subst (IsFrontIn c.args.syntax.now.dialect c.args.syntax.now.text) c.nodes.ensures.are c.nodes.ensures.front in
     let node = looked_at ns i c.index-nodes-i.result c.requires.within (subst (λ s. c.index-nodes-i.result ≡ get_or s i c.index-nodes-i.result) c.nodes.ensures.are c.index-nodes-i.is) in
-    let deep = open_deep c.args.syntax.now.text ns front i c.requires.within c.args.above.now.items c.requires.open in
+    let deep = open_deep c.args.syntax.now.dialect c.args.syntax.now.text ns front i c.requires.within c.args.above.now.items c.requires.open in
     let same = ap (λ n. n.depth) node in
     let many = ap length c.truncate.ensures.items ∙ length-take-le c.index-nodes-i.result.depth c.args.above.now.items (omega arith) ∙ same in
     let kept = subst (AreAbove ns i 0) (sym c.truncate.ensures.items) (above_take ns i 0 c.index-nodes-i.result.depth c.args.above.now.items c.requires.open.each) in

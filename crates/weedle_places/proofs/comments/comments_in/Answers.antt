@@ -7,10 +7,10 @@ use Rattle.weedle_places.proofs.comments.comments_in.Goals as goal
 use Rattle.weedle_places.proofs.comments.comments_in.Goals.{then-is_comment_in+in_ok-push, else-is_comment_in}
 
 pub begun_before-first-requires : goal.begun_before-first-requires
-begun_before-first-requires c = record { rise = front_rises c.args.syntax.now.text c.nodes-nodes.result.now c.nodes-nodes.ensures.front }
+begun_before-first-requires c = record { rise = front_rises c.args.syntax.now.text c.args.syntax.now.dialect c.nodes-nodes.result.now c.nodes-nodes.ensures.front }
 
 pub begun_before-end-requires : goal.begun_before-end-requires
-begun_before-end-requires c = record { rise = front_rises c.args.syntax.now.text c.nodes-nodes.result.now c.nodes-nodes.ensures.front }
+begun_before-end-requires c = record { rise = front_rises c.args.syntax.now.text c.args.syntax.now.dialect c.nodes-nodes.result.now c.nodes-nodes.ensures.front }
 
 pub loop-i-init : goal.loop-i-init
 loop-i-init c =

@@ -5,6 +5,7 @@ use Rattle.weedle_grammar.specs.written.Table.Definitions.{DEFINITIONS}
 use Rattle.weedle_refusal.proofs.FrontFacts.{rest_begins, rest_within}
 use Rattle.weedle_refusal.proofs.RefusalFacts.{refused_behind}
 use Rattle.weedle_syntax.specs.Syntax.{RestBegins, rest_of}
+use Rattle.weedle_syntax.specs.declared.dialect.Dialect.TheVariants.{Weedle2}
 use Rattle.weedle_refusal.proofs.behind.refusal_behind.Goals as goal
 
 pub refusal_at-requires : goal.refusal_at-requires
@@ -29,4 +30,4 @@ returns-clause-explains c =
     let unread : at < length rest = omega arith in
     let R : List ℕ → Type 0 = λ text. RestBegins text at in
     let U : List ℕ → Type 0 = λ text. at < length text in
-    refused_behind (subst R c.range_from-rest.ensures.value begins) (subst U c.range_from-rest.ensures.value unread) c.in_ok-refusal.ensures.said
+    refused_behind Weedle2 (subst R c.range_from-rest.ensures.value begins) (subst U c.range_from-rest.ensures.value unread) c.in_ok-refusal.ensures.said

@@ -15,7 +15,7 @@ loop-rule-preserved c =
     let rules = c.args.rules.now in
     let i = c.loop-rule.rule-index in
     let r = c.rule-item.result in
-    let f = word_for rules in
+    let f = word_for c.args.dialect rules in
     let new : List Word = map word_view c.add_word.new.words.items in
     let within : i < length rules = omega arith in
     let front : take (i + 1) rules ≡ take i rules ++ r ∷ [] = take_more rules i r within ∙ ap (λ x. take i rules ++ x ∷ []) (sym c.rule-item.is) in
@@ -28,4 +28,4 @@ returns c =
     let words = c.loop-rule.words.items in
     let all : c.loop-rule.rule-index ≡ length rules = omega arith in
     let whole : take c.loop-rule.rule-index rules ≡ rules = ap (λ n. take n rules) all ∙ take-length rules in
-    are_words rules words (subst (λ rs. IsEachOnce (filter_map (word_for rules) rs) (map word_view words)) whole c.loop-rule.invariant)
+    are_words c.args.dialect rules words (subst (λ rs. IsEachOnce (filter_map (word_for c.args.dialect rules) rs) (map word_view words)) whole c.loop-rule.invariant)

@@ -26,7 +26,7 @@ pub(crate) fn many(
     ensures { Adds last marks.old marks.new (Tries ends.now.text rule place) }
 {
     mark(marks, last, item, place);
-    match ends.end(item, place) {
+    match ends.cell(item, place) {
         Some(end) => {
             if end != place {
                 mark(marks, last, rule, end);
@@ -52,7 +52,7 @@ pub(crate) fn listed(
     ensures { Adds last marks.old marks.new (TriesListed ends.now.text item tail place) }
 {
     mark(marks, last, item, place);
-    match ends.end(item, place) {
+    match ends.cell(item, place) {
         Some(end) => mark(marks, last, tail, end),
         None => {}
     }
@@ -75,11 +75,11 @@ pub(crate) fn tail(
     ensures { Adds last marks.old marks.new (Tries ends.now.text rule place) }
 {
     mark(marks, last, separator, place);
-    match ends.end(separator, place) {
+    match ends.cell(separator, place) {
         Some(behind) => {
             if behind != place {
                 mark(marks, last, item, behind);
-                match ends.end(item, behind) {
+                match ends.cell(item, behind) {
                     Some(end) => mark(marks, last, rule, end),
                     None => {}
                 }

@@ -1,7 +1,7 @@
 //! Rows of several parts: sequences, choices, and sequences whose last part has a condition.
 
 ghost use Rattle.std.specs.Prelude.{◌^◌, ◌≡◌, ◌≤◌, ◌<◌, ◌*◌, ℕ, length, MatchOption, if◌then◌else◌};
-ghost use Rattle.weedle_grammar.specs.written.Bound.{rule_count};
+ghost use Rattle.weedle_grammar.specs.written.Bound.{table_count};
 ghost use Rattle.weedle_grammar.specs.Rows.{If};
 ghost use Rattle.weedle_grammar.specs.written.Table.{row_of};
 ghost use Rattle.weedle_grammar.specs.View.{numbers_of};
@@ -24,7 +24,7 @@ pub(crate) fn in_turn(marks: &mut [u64], ends: &Ends<'_>, last: usize, place: us
     for i in 0..parts.len() {
         let part = parts.rule(i);
         mark(marks, last, part, end);
-        match ends.end(part, end) {
+        match ends.cell(part, end) {
             Some(next) => end = next,
             None => return,
         }
@@ -42,7 +42,7 @@ pub(crate) fn by_choice(marks: &mut [u64], ends: &Ends<'_>, last: usize, place: 
     for i in 0..parts.len() {
         let part = parts.rule(i);
         mark(marks, last, part, place);
-        match ends.end(part, place) {
+        match ends.cell(part, place) {
             Some(_) => return,
             None => {}
         }
@@ -67,7 +67,7 @@ fn end_with(
     y: Rule,
 ) -> Option<usize>
     requires within { place ≤ length ends.now.text }
-    requires low { rule < rule_count }
+    requires low { rule < table_count }
     requires row { row_of rule ≡ If (numbers_of parts) k y }
     ensures { MatchOption result ((q : ℕ) → EndsWith ends.now.text (numbers_of parts) k place q → ⊥)
         (λ q. EndsWith ends.now.text (numbers_of parts) k place q) }
@@ -75,7 +75,7 @@ fn end_with(
     let mut end = place;
     let mut present = false;
     for i in 0..parts.len() {
-        match ends.end(parts.rule(i), end) {
+        match ends.cell(parts.rule(i), end) {
             Some(next) => {
                 present = choose(i == k, next != end, present);
                 end = next;

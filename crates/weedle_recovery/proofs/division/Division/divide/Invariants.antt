@@ -6,7 +6,7 @@ use Rattle.weedle_recovery.proofs.division.Division.divide.Given as goal
 
 -- the text is divided up to here
 abbrev pub invariant-loop-at : goal.invariant-loop-at
-invariant-loop-at l = IsDivided l.text.text l.self.parts.items l.self.nodes.items l.self.definition l.at × WholeSoFar l.text.text l.self.parts.items l.at
+invariant-loop-at l = IsDivided l.text l.self.parts.items l.self.nodes.items l.self.definition l.at × WholeSoFar l.text.dialect l.text.text l.self.parts.items l.at
     × IsCounted l.text l.self.parts.items l.self.limits.steps
 
 abbrev pub decreases-loop-at : goal.decreases-loop-at

@@ -5,5 +5,5 @@ use Rattle.weedle_recovery.proofs.division.Division.leave_rest.Given as goal
 
 -- the text is divided up to here
 abbrev pub invariant-loop-number : goal.invariant-loop-number
-invariant-loop-number l = (l.place ≤ l.at) × (l.self.definition ≡ l.place) × IsDivided l.text.text l.self.parts.items l.self.nodes.items l.self.definition l.at
+invariant-loop-number l = (l.place ≤ l.at) × (l.self.definition ≡ l.place) × IsDivided l.text l.self.parts.items l.self.nodes.items l.self.definition l.at
     × IsCounted l.text l.self.parts.items l.self.limits.steps

@@ -2,7 +2,7 @@ use Rattle.std.proofs.Common.{◌+◌, ◌-◌, ◌*◌, length, drop}
 use Rattle.weedle_grammar.specs.Rows.{Many, Tail}
 use Rattle.weedle_starts.specs.View.{numbers_of}
 use Rattle.weedle_grammar.specs.written.Table.{row_of}
-use Rattle.weedle_rules.specs.Cells.{cell_number}
+use Rattle.weedle_rules.specs.Cells.{turn_number}
 use Rattle.weedle_rules.proofs.ConditionEnds.{note_at}
 use Rattle.weedle_syntax.specs.Steps.{RowSteps, TurnSteps, ChoiceSteps}
 use Rattle.weedle_syntax.proofs.CountFacts.{Counting}
@@ -11,31 +11,31 @@ use Rattle.weedle_refusal.proofs.TestFacts.{Testing}
 use Rattle.weedle_refusal.proofs.diagnose.descent.+descent.Given as goal
 
 abbrev pub decreases-read : goal.decreases-read
-decreases-read l = 2 * cell_number (length l.text.now) l.rule l.place + 1
+decreases-read l = 2 * turn_number (length l.text.now) l.rule l.place + 1
 
 abbrev pub decreases-read_parts : goal.decreases-read_parts
-decreases-read_parts l = 2 * cell_number (length l.text.now) l.rule l.place + 0
+decreases-read_parts l = 2 * turn_number (length l.text.now) l.rule l.place + 0
 
 abbrev pub decreases-read_choice : goal.decreases-read_choice
-decreases-read_choice l = 2 * cell_number (length l.text.now) l.rule l.place + 0
+decreases-read_choice l = 2 * turn_number (length l.text.now) l.rule l.place + 0
 
 abbrev pub decreases-read_optional : goal.decreases-read_optional
-decreases-read_optional l = 2 * cell_number (length l.text.now) l.rule l.place + 0
+decreases-read_optional l = 2 * turn_number (length l.text.now) l.rule l.place + 0
 
 abbrev pub decreases-read_items : goal.decreases-read_items
-decreases-read_items l = 2 * cell_number (length l.text.now) l.rule l.place + 0
+decreases-read_items l = 2 * turn_number (length l.text.now) l.rule l.place + 0
 
 abbrev pub decreases-read_list : goal.decreases-read_list
-decreases-read_list l = 2 * cell_number (length l.text.now) l.rule l.place + 0
+decreases-read_list l = 2 * turn_number (length l.text.now) l.rule l.place + 0
 
 abbrev pub decreases-read_list1 : goal.decreases-read_list1
-decreases-read_list1 l = 2 * cell_number (length l.text.now) l.rule l.place + 0
+decreases-read_list1 l = 2 * turn_number (length l.text.now) l.rule l.place + 0
 
 abbrev pub decreases-read_tail : goal.decreases-read_tail
-decreases-read_tail l = 2 * cell_number (length l.text.now) l.rule l.place + 0
+decreases-read_tail l = 2 * turn_number (length l.text.now) l.rule l.place + 0
 
 abbrev pub decreases-read_conditional : goal.decreases-read_conditional
-decreases-read_conditional l = 2 * cell_number (length l.text.now) l.rule l.place + 0
+decreases-read_conditional l = 2 * turn_number (length l.text.now) l.rule l.place + 0
 
 abbrev pub invariant-read_parts-loop-i : goal.invariant-read_parts-loop-i
 invariant-read_parts-loop-i l = Turning l.text l.fn.rule l.fn.place (numbers_of l.fn.parts) l.fn.furthest (drop l.i (numbers_of l.fn.parts)) l.at l.furthest

@@ -1,7 +1,8 @@
 use Rattle.std.proofs.Common.{◌≡◌, true, sym, subst, arith}
 use Rattle.weedle_grammar.specs.written.Bound.{rule_count}
 use Rattle.weedle_refusal.specs.Marks.{IsSet}
-use Rattle.weedle_refusal.specs.Noted.{IsUnmetIn, Notes, AreOpened}
+use Rattle.weedle_refusal.specs.Diagnosis.{IsUnmetIn}
+use Rattle.weedle_refusal.specs.Noted.{Notes, AreOpened}
 use Rattle.weedle_refusal.proofs.DiagnosisFacts.{none_opened, one_opened, none_more}
 use Rattle.weedle_refusal.proofs.StepFacts.{count_none, count_one}
 use Rattle.weedle_refusal.proofs.diagnose.opened.opened.Goals.{then-has+in_ok-read, else-has}

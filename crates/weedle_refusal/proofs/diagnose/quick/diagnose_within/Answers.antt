@@ -1,15 +1,7 @@
-use Rattle.std.proofs.Common.{List, ℕ, subst, ◌∙◌}
-use Rattle.weedle_refusal.specs.Descent.{DescentSteps}
-use Rattle.weedle_refusal.specs.Noted.{IsFurthestFrom}
-use Rattle.weedle_refusal.proofs.DiagnosisFacts.{diagnosed}
 use Rattle.weedle_refusal.proofs.diagnose.quick.diagnose_within.Goals as goal
-use Rattle.weedle_syntax.specs.Steps.{Spends}
 
-pub returns-in_ok-expected-in-Ok-clause-is : goal.returns-in_ok-expected-in-Ok-clause-is
-returns-in_ok-expected-in-Ok-clause-is c =
-    let found = subst (λ (t : List ℕ). IsFurthestFrom t c.args.start c.in-Ok.furthest) (c.new-source.ensures ∙ c.as_bytes.ensures.value) c.in-Ok.ensures.found in
-    diagnosed c.args.text.now c.args.start c.requires c.in-Ok.furthest found c.in_ok-expected-in-Ok.expected.items c.in_ok-expected-in-Ok.ensures.exact c.in_ok-expected-in-Ok.ensures.rising
+pub returns-clause-is : goal.returns-clause-is
+returns-clause-is c = c.diagnose_within_in.ensures.is
 
-pub returns-in_ok-expected-in-Ok-clause-steps : goal.returns-in_ok-expected-in-Ok-clause-steps
-returns-in_ok-expected-in-Ok-clause-steps c =
-    subst (λ (t : List ℕ). Spends (DescentSteps t c.args.start c.in-Ok.furthest.place) c.args.limits.now.steps c.furthest_from.new.left) (c.new-source.ensures ∙ c.as_bytes.ensures.value) c.in-Ok.ensures.steps
+pub returns-clause-steps : goal.returns-clause-steps
+returns-clause-steps c = c.diagnose_within_in.ensures.steps

@@ -1,5 +1,5 @@
 use Rattle.std.proofs.Common.{◌≡◌, true, refl, rules, arith}
-use Rattle.weedle_grammar.specs.written.Bound.{rule_count}
+use Rattle.weedle_grammar.specs.written.Bound.{table_count}
 use Rattle.weedle_starts.specs.Tries.{IsUnmet}
 use Rattle.weedle_refusal.proofs.ListingFacts.{lists_none, lists_same, lists_pushed, lists_skipped, lists_whole}
 use Rattle.weedle_refusal.proofs.diagnose.unmet.unmet_at.Goals.{then-is_unmet+in_ok-push, else-is_unmet}
@@ -18,4 +18,4 @@ loop-number-preserved c = elim c.if-is_unmet.branch [
 ]
 
 pub returns-clause-exact : goal.returns-clause-exact
-returns-clause-exact c = lists_whole c.loop-number.found.items c.loop-number.number rule_count (λ r. IsUnmet c.args.ends.now.text c.args.start r c.args.place) (omega arith) c.loop-number.invariant
+returns-clause-exact c = lists_whole c.loop-number.found.items c.loop-number.number table_count (λ r. IsUnmet c.args.ends.now.text c.args.start r c.args.place) (omega arith) c.loop-number.invariant

@@ -21,5 +21,5 @@ returns c =
       ends_member = from_before order (member.ensures.found before);
       ends_next = next.ensures.found inside;
       changed = rw c.in-Some.is at c.in_ok-text.ensures;
-      beyond = subst (λ t. LeavesLess t (end.result - next.result)) c.as_str.ensures.value (c.in_ok-less.ensures less);
+      beyond = subst (λ t. LeavesLess c.args.unread.now.dialect t (end.result - next.result)) c.as_str.ensures.value (c.in_ok-less.ensures less);
     }

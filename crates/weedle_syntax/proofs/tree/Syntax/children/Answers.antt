@@ -15,7 +15,7 @@ overflow_add-result-3 c =
 pub invariant_of-result : goal.invariant_of-result
 invariant_of-result c =
     let here = rw (← c.self.view_is) at c.requires in
-    let j = joined _ _ c.self.invariant.front in
+    let j = joined c.self.inside.dialect _ _ c.self.invariant.front in
     let count = count_read c.self.inside.nodes.items c.self.inside.below.items 0 c.args.node _ c.self.invariant.counted (omega arith) here c.index-2.ensures in
     let depth = depth_read c.self.inside.nodes.items c.args.node _ here c.index.ensures in
     let begin = children_begin c.self.inside.nodes.items c.self.inside.below.items c.args.node here j.0 c.index-2.result.now j.2 c.self.invariant.counted count in

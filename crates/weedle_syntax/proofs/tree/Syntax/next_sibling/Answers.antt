@@ -23,7 +23,7 @@ overflow_add-next-2 c =
 pub returns-then-index-clause-some : goal.returns-then-index-clause-some
 returns-then-index-clause-some c =
     let here = rw (← c.self.view_is) at c.requires in
-    let j = joined _ _ c.self.invariant.front in
+    let j = joined c.self.inside.dialect _ _ c.self.invariant.front in
     let count = count_read c.self.inside.nodes.items c.self.inside.below.items 0 c.args.node _ c.self.invariant.counted (omega arith) here c.index.ensures in
     let many = c.self.inside.nodes.ok.0 in
     let next = c.args.node + c.index.result.now + 1 in
@@ -39,7 +39,7 @@ returns-then-index-clause-some c =
 pub returns-else-index-clause-none : goal.returns-else-index-clause-none
 returns-else-index-clause-none c =
     let here = rw (← c.self.view_is) at c.requires in
-    let j = joined _ _ c.self.invariant.front in
+    let j = joined c.self.inside.dialect _ _ c.self.invariant.front in
     let count = count_read c.self.inside.nodes.items c.self.inside.below.items 0 c.args.node _ c.self.invariant.counted (omega arith) here c.index.ensures in
     let many = c.self.inside.nodes.ok.0 in
     let next = c.args.node + c.index.result.now + 1 in
@@ -51,7 +51,7 @@ returns-else-index-clause-none c =
 pub returns-else-next-many-clause-none : goal.returns-else-next-many-clause-none
 returns-else-next-many-clause-none c =
     let here = rw (← c.self.view_is) at c.requires in
-    let j = joined _ _ c.self.invariant.front in
+    let j = joined c.self.inside.dialect _ _ c.self.invariant.front in
     let count = count_read c.self.inside.nodes.items c.self.inside.below.items 0 c.args.node _ c.self.invariant.counted (omega arith) here c.index.ensures in
     let many = c.self.inside.nodes.ok.0 in
     let next = c.args.node + c.index.result.now + 1 in

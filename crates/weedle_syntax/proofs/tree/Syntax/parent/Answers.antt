@@ -18,7 +18,7 @@ loop-at-preserved c =
 pub returns-then-index-depth : goal.returns-then-index-depth
 returns-then-index-depth c =
     let here = rw (← c.self.view_is) at c.requires in
-    let j = joined _ _ c.self.invariant.front in
+    let j = joined c.self.inside.dialect _ _ c.self.invariant.front in
     let back = c.loop-at.invariant.within in
     let own = depth_read c.self.inside.nodes.items c.args.node _ here c.index.ensures in
     let other = depth_read c.self.inside.nodes.items (c.loop-at.at - 1) _ (omega arith) c.index-in-loop-at.ensures in
@@ -28,5 +28,5 @@ returns-then-index-depth c =
 pub returns : goal.returns
 returns c =
     let here = rw (← c.self.view_is) at c.requires in
-    let j = joined _ _ c.self.invariant.front in
+    let j = joined c.self.inside.dialect _ _ c.self.invariant.front in
     no_parent c.self.inside.nodes.items j.0 j.2 c.args.node here (subst (IsBack c.self.inside.nodes.items c.args.node) (omega arith) c.loop-at.invariant)

@@ -3,4 +3,4 @@ use Rattle.weedle_refusal.proofs.BitFacts.{clear_words}
 use Rattle.weedle_refusal.proofs.diagnose.noted.Furthest.new.Goals as goal
 
 pub returns-clause-none : goal.returns-clause-none
-returns-clause-none c = clear_words 7 _ refl
+returns-clause-none c = clear_words 9 _ refl

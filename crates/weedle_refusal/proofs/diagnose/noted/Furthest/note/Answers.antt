@@ -12,7 +12,7 @@ returns c =
     let on = c.if-place-self.false in
     let set : (other : ℕ) → IsSet c.set.new.marks other ↔ (IsSet now.marks other ⊎ (other ≡ c.args.rule)) = λ other. subst (λ k. IsSet c.set.new.marks other ↔ (IsSet now.marks other ⊎ (other ≡ k))) c.number.ensures.0 (c.set.ensures other) in
     inr (elim c.if-place-self-2.branch [
-      | then-place-self-2 w ↦ marked_alone c.args.rule c.args.place c.args.self.now now.leaves now.place now.marks c.set.new.marks (omega (arith, w.if-place-self-2.true)) (ap (λ f. f.place) w.self-is) (ap (λ f. f.leaves) w.self-is) (clear_words 7 now.marks (ap (λ f. f.marks) w.self-is)) set
+      | then-place-self-2 w ↦ marked_alone c.args.rule c.args.place c.args.self.now now.leaves now.place now.marks c.set.new.marks (omega (arith, w.if-place-self-2.true)) (ap (λ f. f.place) w.self-is) (ap (λ f. f.leaves) w.self-is) (clear_words 9 now.marks (ap (λ f. f.marks) w.self-is)) set
       | else-place-self-2 w ↦ (
           let e : now.place ≡ c.args.place = (let same = ap (λ f. f.place) w.self-is in let off = w.if-place-self-2.false in omega (arith, same, off, on)) in
           marked_too c.args.rule c.args.place c.args.self.now now c.set.new.marks on e w.self-is set)

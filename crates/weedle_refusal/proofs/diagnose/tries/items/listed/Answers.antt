@@ -7,8 +7,8 @@ use Rattle.weedle_refusal.proofs.diagnose.tries.items.listed.Goals as goal
 pub mark-requires-clause-here : goal.mark-requires-clause-here
 mark-requires-clause-here c = c.requires.inside _ _ (inl (refl, refl))
 
-pub end-requires : goal.end-requires
-end-requires c = in_text c.args.ends.now.text c.requires.last (c.requires.inside _ _ (inl (refl, refl)))
+pub cell-requires-clause-within : goal.cell-requires-clause-within
+cell-requires-clause-within c = in_text c.args.ends.now.text c.requires.last (c.requires.inside _ _ (inl (refl, refl)))
 
 pub mark-requires-in-Some-clause-here : goal.mark-requires-in-Some-clause-here
 mark-requires-in-Some-clause-here c = still_in c.mark.ensures.many (c.requires.inside _ _ (inr (c.in-Some.end, it_ends c.in-Some.ensures.right, (refl, refl))))
@@ -18,3 +18,6 @@ returns-in-Some c = one_follows c.args.ends.now.text c.args.tail c.mark.ensures 
 
 pub returns-in-None : goal.returns-in-None
 returns-in-None c = none_follows c.args.ends.now.text c.args.tail c.mark.ensures c.in-None.ensures.right
+
+pub cell-requires-clause-low : goal.cell-requires-clause-low
+cell-requires-clause-low c = (c.requires.inside c.args.item c.args.place (inl (refl, refl))).low

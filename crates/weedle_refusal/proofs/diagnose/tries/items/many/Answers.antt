@@ -18,3 +18,6 @@ returns-else-end-place c = many_stuck c.args.ends.now.text c.args.rule c.require
 
 pub returns-in-None : goal.returns-in-None
 returns-in-None c = many_ended c.args.ends.now.text c.args.rule c.requires.row c.mark.ensures c.in-None.ensures.right
+
+pub cell-requires-clause-low : goal.cell-requires-clause-low
+cell-requires-clause-low c = (row_in c.args.ends.now.text {x = c.args.item} c.requires.last c.requires.row c.requires.here (inl (refl, refl))).low

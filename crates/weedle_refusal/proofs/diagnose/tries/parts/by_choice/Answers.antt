@@ -12,8 +12,8 @@ mark-requires-clause-here c =
     let g = rw (next_part (numbers_of c.args.parts) c.len-i-end.ensures c.loop-i-test.true c.rule-part.ensures.value) at c.loop-i.invariant in
     still_in g.many (c.requires.inside _ _ (choice_head c.args.ends.now.text _ _ _ g))
 
-pub end-requires : goal.end-requires
-end-requires c =
+pub cell-requires-clause-within : goal.cell-requires-clause-within
+cell-requires-clause-within c =
     let g = rw (next_part (numbers_of c.args.parts) c.len-i-end.ensures c.loop-i-test.true c.rule-part.ensures.value) at c.loop-i.invariant in
     in_text c.args.ends.now.text c.requires.last (c.requires.inside _ _ (choice_head c.args.ends.now.text _ _ _ g))
 
@@ -31,3 +31,8 @@ pub returns : goal.returns
 returns c =
     let g = rw (no_part (numbers_of c.args.parts) c.len-i-end.ensures c.loop-i-test.false) at c.loop-i.invariant in
     choice_ends c.args.ends.now.text c.args.place g
+
+pub cell-requires-clause-low : goal.cell-requires-clause-low
+cell-requires-clause-low c =
+    let g = rw (next_part (numbers_of c.args.parts) c.len-i-end.ensures c.loop-i-test.true c.rule-part.ensures.value) at c.loop-i.invariant in
+    (c.requires.inside _ _ (choice_head c.args.ends.now.text _ _ _ g)).low

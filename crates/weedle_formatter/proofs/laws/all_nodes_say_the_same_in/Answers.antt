@@ -1,0 +1,5 @@
+use Rattle.weedle_formatter.proofs.LawFacts.{all_nodes}
+use Rattle.weedle_formatter.proofs.laws.all_nodes_say_the_same_in.Goals as goal
+
+pub returns : goal.returns
+returns c = all_nodes
