@@ -1,12 +1,13 @@
 //! A parser of WebIDL.
 //!
 //! [`parse`] reads a text as a list of definitions, or says from where on it is none;
-//! [`parse_counted`] counts what that takes. [`parse_by_descent`] answers the same with little
-//! memory, and [`parse_quick`] takes it where the text suits it; [`nesting`] says how deep a text
-//! nests. [`outline`] gives kinds, names and docstrings, and [`lend`] lends it a list that a
-//! function owns. [`members_of`], [`type_names`] and [`parts_named`] say of definitions what many
-//! kinds have, and [`WriteIdl`] writes values as WebIDL. [`run`] is the program: it reads its input
-//! to the end, and writes what the text defines; [`run_outline`] writes an outline of it.
+//! [`parse_counted`] counts what that takes. [`parse_bounded`] answers the same with the same
+//! bounds, in less time. [`parse_by_descent`] answers it with little memory, and [`parse_quick`]
+//! takes it where the text suits it; [`nesting`] says how deep a text nests. [`outline`] gives
+//! kinds, names and docstrings, and [`lend`] lends it a list that a function owns. [`members_of`],
+//! [`type_names`] and [`parts_named`] say of definitions what many kinds have, and [`WriteIdl`]
+//! writes values as WebIDL. [`run`] is the program: it reads its input to the end, and writes what
+//! the text defines; [`run_outline`] writes an outline of it.
 //!
 //! ```rust
 //! use weedle::{name_of, parse};
@@ -103,8 +104,8 @@ pub mod types;
 
 pub use weedle_base::{Err, Error, ErrorKind, IResult, Parse, TryClone, at_byte, term};
 pub use weedle_front::{
-    Counted, Depths, Entry, RunFault, Status, explain, kind_of, lend, name_of, nesting, outline,
-    parse, parse_by_descent, parse_counted, parse_quick, run, run_outline,
+    Counted, Depths, Entry, RunFault, Status, explain, explain_in, kind_of, lend, name_of, nesting,
+    outline, parse, parse_bounded, parse_by_descent, parse_counted, parse_quick, run, run_outline,
 };
 pub use weedle_idl::{
     CallbackDefinition, CallbackInterfaceDefinition, Definition, Definitions, DictionaryDefinition,
@@ -113,10 +114,13 @@ pub use weedle_idl::{
     PartialDictionaryDefinition, PartialInterfaceDefinition, PartialInterfaceMixinDefinition,
     PartialNamespaceDefinition, TypedefDefinition, dictionary, interface, mixin, namespace,
 };
-pub use weedle_places::{MemberPlace, Name, Place, Role, Span, names, places, references};
+pub use weedle_places::{
+    MemberPlace, Name, Place, Role, Span, names, names_in, places, places_by, references,
+    references_in,
+};
 pub use weedle_print_idl::{Nullable, PrintError, Reserved, Words, WriteIdl, write_list};
 pub use weedle_refusal::{
-    Class, Expected, Hint, Lines, Position, Refusal, position_of, write_hint,
+    Class, Dialect, DialectError, Expected, Hint, Lines, Position, Refusal, position_of, write_hint,
 };
 pub use weedle_types::{argument, attribute};
 pub use weedle_view::{

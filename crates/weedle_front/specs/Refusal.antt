@@ -5,7 +5,10 @@ use Rattle.weedle_front.specs.Whole.{IsWhole, IsLeft}
 use Rattle.weedle_idl.specs.declared.definition.Definition.{Definition}
 use Rattle.weedle_refusal.specs.Furthest.{IsFurthest}
 use Rattle.weedle_refusal.specs.Hint.{IsHint}
+use Rattle.weedle_refusal.specs.Refusal.{ExplainsIn as ExplainsByRules}
 use Rattle.weedle_refusal.specs.declared.refusal.Refusal.{Refusal}
+use Rattle.weedle_syntax.specs.declared.dialect.Dialect.{Dialect}
+use Rattle.weedle_syntax.specs.declared.dialect.Dialect.TheVariants.{Weedle2, Today}
 
 -- the text is refused: the grammar leaves the text from `start` on, and of that the place and the
 -- words tell
@@ -25,6 +28,11 @@ pub record IsRefusal (raw : List ℕ) (refusal : Refusal) : Type 0 where
 abbrev pub Explains : List ℕ → Option Refusal → Type 0
 Explains raw None = (definitions : List Definition) × IsWhole raw definitions
 Explains raw (Some refusal) = IsRefusal raw refusal
+
+-- the same by the dialect's rules: today's have no types, so there the text is read whole where their rule of a whole text reads it
+abbrev pub ExplainsIn : Dialect → List ℕ → Option Refusal → Type 0
+ExplainsIn Weedle2 = Explains
+ExplainsIn Today = ExplainsByRules Today
 
 -- what the grammar leaves of a text, if that is something
 pub record IsRest (raw rest : List ℕ) : Type 0 where

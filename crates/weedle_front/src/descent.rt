@@ -4,7 +4,8 @@ ghost use Rattle.std.specs.Prelude.{IfOk, IfErr};
 ghost use Rattle.weedle_base.specs.Faults.{IsWithin};
 ghost use Rattle.weedle_front.specs.Whole.{ParseAnswers, SpellsList, HasTexts};
 
-use crate::reader::{parse, whole};
+use crate::bounded::parse_bounded;
+use crate::reader::whole;
 use std::alloc::Global;
 use weedle_base::{Err, Error, Parse, out_of_memory};
 use weedle_idl::Definitions;
@@ -39,13 +40,13 @@ pub fn parse_by_descent(alloc: Global, raw: &str) -> Result<Definitions<'_>, Err
     }
 }
 
-/// Reads a whole text as [`parse`](crate::parse) does, by descent or over the table.
+/// Reads a whole text as [`parse`](crate::parse) does, by descent or over a memo.
 ///
 /// It looks once at the text, past strings and comments. Where extended attributes nest so little
 /// that a byte is read less than four times on the average for their arguments, and no more than
 /// 1,000 of `(` and `<` are open at once, it takes [`parse_by_descent`], and else
-/// [`parse`](crate::parse). So for what people write it needs little time, and no memory except for
-/// the list's; for a hostile text it needs what [`parse`](crate::parse) needs.
+/// [`parse_bounded`]. So for what people write it needs little time, and no memory except for the
+/// list's; for a hostile text it needs what [`parse_bounded`] needs.
 pub fn parse_quick(alloc: Global, raw: &str) -> Result<Definitions<'_>, Err<Error<&str>>>
     // The list of the whole text, or what the grammar leaves of it.
     ensures answers { ParseAnswers raw.now result }
@@ -62,6 +63,6 @@ pub fn parse_quick(alloc: Global, raw: &str) -> Result<Definitions<'_>, Err<Erro
     if suits_descent(raw) {
         parse_by_descent(alloc, raw)
     } else {
-        parse(alloc, raw)
+        parse_bounded(alloc, raw).answer
     }
 }

@@ -11,7 +11,7 @@ use weedle_build::build_definitions;
 use weedle_idl::Definitions;
 use weedle_rules::Ends;
 
-/// What [`parse`] answers, and what that took.
+/// What [`parse_counted`] or [`parse_bounded`](crate::parse_bounded) answers, and what that took.
 #[derive(Drop)]
 pub struct Counted<'a> {
     /// What [`parse`] answers.

@@ -13,13 +13,15 @@
 //!
 //! It prints ``a.webidl:3:1: expected `;` ``.
 
-ghost use Rattle.std.specs.Prelude.{◌≤◌, IfOk, IfSome, length};
-ghost use Rattle.weedle_front.specs.Refusal.{Explains, IsUnreadRest};
+ghost use Rattle.std.specs.Prelude.{◌≡◌, ◌≤◌, IfErr, IfOk, IfSome, length};
+ghost use Rattle.weedle_front.specs.Refusal.{Explains, ExplainsIn, IsUnreadRest};
+ghost use Rattle.weedle_refusal.specs.declared.error.DialectError.TheVariants.{Memory};
+ghost use Rattle.weedle_syntax.specs.declared.dialect.Dialect.TheVariants.{Weedle2};
 
 use crate::parse_quick;
 use std::alloc::{AllocError, Global};
 use weedle_base::Err;
-use weedle_refusal::{Refusal, furthest_in, hint_of};
+use weedle_refusal::{Dialect, DialectError, Refusal, furthest_in, hint_of, refusal_in};
 
 /// Why a text is refused, or None where it is read whole.
 ///
@@ -51,6 +53,45 @@ pub fn explain(alloc: Global, raw: &str) -> Result<Option<Refusal>, AllocError>
         expected,
         hint,
     }))
+}
+
+/// Why a text is refused by the rules of a dialect, or None where they read it whole.
+///
+/// `[Exposed=*] interface A { long x; };` is refused by weedle2's rules at 9, where the `*` is, and
+/// by today's at 32, where a `(` is expected.
+///
+/// By weedle2's rules it is [`explain`]. By today's it is [`refusal_in`]: it reads the definition
+/// that isn't read by descent alone, and where that nests too deep, the answer is
+/// [`DialectError::TooDeep`].
+pub fn explain_in(
+    alloc: Global,
+    raw: &str,
+    dialect: Dialect,
+) -> Result<Option<Refusal>, DialectError>
+    ensures explains { IfOk result (ExplainsIn dialect raw.now) }
+
+    // A refusal's place is one of the text.
+    ensures within { IfOk result
+        (λ answer. IfSome answer (λ refusal. refusal.place ≤ length raw.now)) }
+
+    // No text is too deep for weedle2's rules.
+    ensures deep { dialect ≡ Weedle2 → IfErr result (λ e. e ≡ Memory) }
+{
+    match dialect {
+        Dialect::Weedle2 => explain_weedle2(alloc, raw),
+        Dialect::Today => refusal_in(alloc, raw, Dialect::Today),
+    }
+}
+
+/// The same by weedle2's rules.
+fn explain_weedle2(alloc: Global, raw: &str) -> Result<Option<Refusal>, DialectError>
+    ensures explains { IfOk result (Explains raw.now) }
+    ensures within { IfOk result
+        (λ answer. IfSome answer (λ refusal. refusal.place ≤ length raw.now)) }
+    ensures memory { IfErr result (λ e. e ≡ Memory) }
+{
+    let answer = explain(alloc, raw)?;
+    Ok(answer)
 }
 
 /// What the grammar leaves of the text, or None where it leaves nothing.
