@@ -4,11 +4,11 @@ use weedle_program::Request;
 
 /// What is said on standard error where the arguments ask for nothing that the program does.
 pub const USAGE: &str =
-    "usage: weedle_check [--tree | --syntax | --print | --time] [--errors N] [FILE..]";
+    "usage: weedle_check [--tree | --syntax | --print | --time] [--errors N] [--today] [FILE..]";
 
 /// What is said on standard output where help is asked for.
 pub const HELP: &str = "\
-usage: weedle_check [--tree | --syntax | --print | --time] [--errors N] [FILE..]
+usage: weedle_check [--tree | --syntax | --print | --time] [--errors N] [--today] [FILE..]
 
 Says of each file of Web IDL whether it is read whole, and if not, each error, where and why.
 Without a file, or for `-`, it reads the standard input.
@@ -18,6 +18,7 @@ Without a file, or for `-`, it reads the standard input.
   --print     writes what is read anew, as Web IDL, and counts no files
   --time      prints how long each reader takes
   --errors N  says so many errors of each file at most, 20 without it; with 1 it looks for no others
+  --today     reads by the rules of today's Web IDL, which give no values: alone or with --syntax
   --help      prints this
 
 Status: 0 all is read, 1 something is refused, 2 a file can't be read or isn't UTF-8,
@@ -49,12 +50,27 @@ pub enum Task {
     Time,
 }
 
-/// The task that is asked for, or None where there is no such option.
-pub fn task_of(request: &Request) -> Option<Task> {
-    match &request.option {
-        None => Some(Task::Check),
-        Some(word) => of_option(word.as_str()),
+impl Task {
+    /// Whether it is done with the values of a text.
+    fn is_over_values(self) -> bool {
+        match self {
+            Task::Tree | Task::Print | Task::Time => true,
+            Task::Check | Task::Syntax => false,
+        }
     }
+}
+
+/// The task that is asked for, or None where there is no such option, and where it is one over values
+/// and today's rules are asked for, which give none.
+pub fn task_of(request: &Request) -> Option<Task> {
+    let task = match &request.option {
+        None => Task::Check,
+        Some(word) => of_option(word.as_str())?,
+    };
+    if request.is_today && task.is_over_values() {
+        return None;
+    }
+    Some(task)
 }
 
 /// The task of an option, or None where there is no such option.

@@ -12,7 +12,8 @@ use std::alloc::Global;
 use std::io::Write;
 use std::rt::Clock;
 use weedle_nesting::suits_descent;
-use weedle_program::{Fault, Outcome};
+use weedle_program::{Fault, Outcome, write_todays};
+use weedle_syntax::Dialect;
 
 /// What the check of a text came to.
 #[derive(Clone, Copy)]
@@ -30,6 +31,8 @@ pub struct Wish {
     pub task: Task,
     /// How many of its errors are reported.
     pub most_errors: usize,
+    /// Whose rules it is read by.
+    pub dialect: Dialect,
 }
 
 /// Checks a text, and prints what is asked for. For a text that isn't read whole it writes each
@@ -43,17 +46,17 @@ pub fn check_text<C: Clock + AllocGlobal, W: Write>(
     out: &mut W,
 ) -> Result<Checked, Fault> {
     let task = wish.task;
-    if let Some(levels) = too_many_levels(task, text) {
+    if let Some(levels) = too_many_levels(wish, text) {
         writeln!(
             out,
             "{name}: nests {levels} levels deep, more than the stack holds"
         )?;
         return Ok(refused(1));
     }
-    if is_written_at_once(rt.alloc(), task, text, out)? {
+    if is_written_at_once(rt.alloc(), wish, text, out)? {
         return Ok(READ);
     }
-    let checked = judge(rt.alloc(), wish.most_errors, name, text, out)?;
+    let checked = judge(rt.alloc(), wish, name, text, out)?;
     if checked.outcome == Outcome::Success {
         match task {
             Task::Tree => write_tree(rt.alloc(), text, out)?,
@@ -83,30 +86,32 @@ fn refused(errors: usize) -> Checked {
 /// whether it did.
 fn is_written_at_once<W: Write>(
     alloc: Global,
-    task: Task,
+    wish: Wish,
     text: &str,
     out: &mut W,
 ) -> Result<bool, Fault> {
-    match task {
-        Task::Syntax => write_syntax(alloc, text, out),
+    match wish.task {
+        Task::Syntax => write_syntax(alloc, wish.dialect, text, out),
         Task::Tree if !suits_descent(text) => write_tree_over_table(alloc, text, out),
         _ => Ok(false),
     }
 }
 
-/// Whether a text is read whole. Where it isn't, it writes so many of its errors, where and why.
+/// Whether a text is read whole. Where it isn't, it writes as many of its errors as are wished, where
+/// and why, and whether today's rules read what weedle2's refuse.
 fn judge<W: Write>(
     alloc: Global,
-    most: usize,
+    wish: Wish,
     name: &str,
     text: &str,
     out: &mut W,
 ) -> Result<Checked, Fault> {
-    match slip_in(alloc, text)? {
+    match slip_in(alloc, text, wish.dialect)? {
         None => Ok(READ),
         Some(slip) => {
             write_slip(name, text, &slip, out)?;
-            let errors = write_others(alloc, name, text, most, out)?;
+            let errors = write_others(alloc, wish, name, text, out)?;
+            write_todays(alloc, wish.dialect, text, out)?;
             Ok(refused(errors))
         }
     }

@@ -1,7 +1,9 @@
 //! How deep a text may nest.
 
 use crate::arguments::Task;
+use crate::check::Wish;
 use weedle_nesting::nesting;
+use weedle_syntax::Dialect;
 
 /// How many levels a text may nest that is read, and dropped.
 const MOST_READ: usize = 6_000;
@@ -14,14 +16,17 @@ const MOST_PRINTED: usize = 2_000;
 /// A `(` or a `<` that is open is one level, and a `[` two: so much more stack do its arguments
 /// take. How deep the readers come was measured, as docs/PROVED.md tells, and the first limit
 /// leaves a quarter of that. What it takes to print a text wasn't: the second limit is a cautious
-/// guess.
-pub fn too_many_levels(task: Task, text: &str) -> Option<usize> {
+/// guess. By today's rules a text is read with as little stack as any other.
+pub fn too_many_levels(wish: Wish, text: &str) -> Option<usize> {
+    if wish.dialect == Dialect::Today {
+        return None;
+    }
     let depths = nesting(text);
     let levels = depths
         .attributes
         .saturating_mul(2)
         .saturating_add(depths.brackets);
-    if levels > most_levels(task) {
+    if levels > most_levels(wish.task) {
         Some(levels)
     } else {
         None

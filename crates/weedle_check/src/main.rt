@@ -1,7 +1,7 @@
 //! Checks Web IDL: says of each file whether it is read whole, and if not, where and why.
 //!
 //! ```text
-//! weedle_check [--tree | --syntax | --print | --time] [--errors N] [FILE..]
+//! weedle_check [--tree | --syntax | --print | --time] [--errors N] [--today] [FILE..]
 //! ```
 //!
 //! It reads the files that are named, or else the standard input, which `-` names too. It prints
@@ -23,6 +23,10 @@
 //! column; with `--syntax` its syntax tree, a node on a line; with `--print` the definitions
 //! written anew as Web IDL, and no count of files behind them; with `--time` how long each reader
 //! takes, and what the packrat table needs.
+//!
+//! It reads by weedle2's rules, and with `--today` by today's, which give no values. Of a file that
+//! weedle2's refuse and today's read whole it says so in a last line:
+//! `today's WebIDL reads it: --today`.
 //!
 //! The status is 0 where all is read, 1 where something is refused, 2 where a file can't be read or
 //! isn't UTF-8, 3 where memory ran out, 4 where the output can't be written, and 5 where the

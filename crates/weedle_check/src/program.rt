@@ -24,6 +24,7 @@ fn carry_out<R: Runtime + AllocGlobal>(rt: &R) -> Result<Outcome, Fault> {
     let wish = Wish {
         task,
         most_errors: most_errors(&request),
+        dialect: request.dialect(),
     };
     let mut out = BufWriter::new(rt.alloc(), io::writer(rt))?;
     let mut counts = Counts::new();

@@ -1,9 +1,9 @@
 //! The syntax tree of a text, as it is printed.
 
-use std::alloc::Global;
+use std::alloc::{AllocError, Global};
 use std::io::{self, Write};
 use weedle_program::Fault;
-use weedle_syntax::{Node, syntax_quick};
+use weedle_syntax::{Dialect, Node, syntax_quick, syntax_quick_in};
 
 /// What is in front of a node for each node that it is in.
 const INDENT: &str = "  ";
@@ -19,8 +19,13 @@ const INDENT: &str = "  ";
 /// ```
 ///
 /// It fails where memory is refused, and where the output can't be written.
-pub fn write_syntax<W: Write>(alloc: Global, text: &str, out: &mut W) -> Result<bool, Fault> {
-    let Some(nodes) = syntax_quick(alloc, text)? else {
+pub fn write_syntax<W: Write>(
+    alloc: Global,
+    dialect: Dialect,
+    text: &str,
+    out: &mut W,
+) -> Result<bool, Fault> {
+    let Some(nodes) = nodes_of(alloc, dialect, text)? else {
         return Ok(false);
     };
     for (i, node) in nodes.iter().enumerate() {
@@ -31,6 +36,14 @@ pub fn write_syntax<W: Write>(alloc: Global, text: &str, out: &mut W) -> Result<
         write_node(node, is_leaf, text, out)?;
     }
     Ok(true)
+}
+
+/// The nodes of a text that the dialect's rules read whole.
+fn nodes_of(alloc: Global, dialect: Dialect, text: &str) -> Result<Option<Vec<Node>>, AllocError> {
+    match dialect {
+        Dialect::Weedle2 => syntax_quick(alloc, text),
+        Dialect::Today => syntax_quick_in(alloc, text, dialect),
+    }
 }
 
 /// Writes the line of a node.

@@ -8,7 +8,7 @@ use std::rt::Clock;
 use std::time::Instant;
 use weedle_build::build_definitions;
 use weedle_program::Fault;
-use weedle_rules::{Cell, Ends, Narrow, RULES};
+use weedle_rules::{Cell, Ends, Narrow, TABLE_RULES};
 
 /// How many nanoseconds the parts of a reading over the table take.
 #[derive(Clone, Copy)]
@@ -70,11 +70,11 @@ fn build<'a>(alloc: Global, ends: &Ends<'a>, text: &'a str) -> Result<(), AllocE
 }
 
 /// A row of cells for each place of the text, none of them worked out.
-fn lay(alloc: Global, text: &str) -> Result<Vec<[Narrow; RULES]>, AllocError> {
+fn lay(alloc: Global, text: &str) -> Result<Vec<[Narrow; TABLE_RULES]>, AllocError> {
     let places = text.len() + 1;
     let mut rows = Vec::with_capacity(alloc, places)?;
     for _ in 0..places {
-        rows.push([Narrow::pack(None); RULES])?;
+        rows.push([Narrow::pack(None); TABLE_RULES])?;
     }
     Ok(rows)
 }

@@ -7,7 +7,7 @@ use std::io::Write;
 use std::rt::Clock;
 use std::time::Instant;
 use weedle_base::{Err, Error};
-use weedle_front::{parse, parse_by_descent, parse_quick};
+use weedle_front::{parse, parse_bounded, parse_by_descent, parse_quick};
 use weedle_nesting::suits_descent;
 use weedle_program::Fault;
 use weedle_rules::Narrow;
@@ -20,6 +20,7 @@ const ROUNDS: usize = 5;
 enum Reader {
     ByDescent,
     Quick,
+    OverMemo,
     OverTable,
 }
 
@@ -45,6 +46,8 @@ pub fn write_times<C: Clock + AllocGlobal, W: Write>(
     }
     let time = time_reader(rt, Reader::Quick, text)?;
     writeln!(out, "parse_quick {} a byte", Ratio(time, bytes))?;
+    let time = time_reader(rt, Reader::OverMemo, text)?;
+    writeln!(out, "parse_bounded {} a byte", Ratio(time, bytes))?;
     let time = time_reader(rt, Reader::OverTable, text)?;
     writeln!(out, "parse {} a byte", Ratio(time, bytes))?;
     write_table(rt, text, out)
@@ -111,6 +114,7 @@ fn read(alloc: Global, reader: Reader, text: &str) -> Result<(), AllocError> {
     match reader {
         Reader::ByDescent => answered(parse_by_descent(alloc, text)),
         Reader::Quick => answered(parse_quick(alloc, text)),
+        Reader::OverMemo => answered(parse_bounded(alloc, text).answer),
         Reader::OverTable => answered(parse(alloc, text)),
     }
 }

@@ -3,11 +3,11 @@
 use weedle_program::Request;
 
 /// What is said on standard error where the arguments ask for nothing that the program does.
-pub const USAGE: &str = "usage: weedle_format [--check | --write] [--partial] [FILE..]";
+pub const USAGE: &str = "usage: weedle_format [--check | --write] [--partial] [--today] [FILE..]";
 
 /// What is said on standard output where help is asked for.
 pub const HELP: &str = "\
-usage: weedle_format [--check | --write] [--partial] [FILE..]
+usage: weedle_format [--check | --write] [--partial] [--today] [FILE..]
 
 Lays out files of Web IDL: moves blanks, and changes nothing else.
 Without a file, or for `-`, it reads the standard input.
@@ -15,6 +15,7 @@ Without a file, or for `-`, it reads the standard input.
   --check    prints the names of the files that would change, and how many
   --write    replaces each file by what was laid out
   --partial  lays out what is read of a file that is refused, too, and leaves the rest as it is
+  --today    reads by the rules of today's Web IDL
   --help     prints this
 
 Without an option it prints what was laid out.

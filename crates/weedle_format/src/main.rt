@@ -1,7 +1,7 @@
 //! Formats Web IDL: moves whitespace, and changes nothing else.
 //!
 //! ```text
-//! weedle_format [--check | --write] [--partial] [FILE..]
+//! weedle_format [--check | --write] [--partial] [--today] [FILE..]
 //! ```
 //!
 //! It reads the files that are named, or else the standard input, which `-` names too, and prints
@@ -20,6 +20,9 @@
 //! does, on standard output with `--check` and `--write`, and else on standard error; and the other
 //! files are done all the same. With `--partial` the definitions that are read of such a file are
 //! formatted too, and all else of it stays byte for byte.
+//!
+//! It reads by weedle2's rules, and with `--today` by today's. Of a file that weedle2's refuse and
+//! today's read whole it says so in a last line: `today's WebIDL reads it: --today`.
 //!
 //! The status is 0 where all is well, 1 where something is refused or would change, 2 where a file
 //! can't be read or isn't UTF-8, 3 where memory ran out, 4 where a file or the output can't be

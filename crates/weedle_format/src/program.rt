@@ -24,6 +24,7 @@ fn carry_out<R: Runtime + AllocGlobal>(rt: &R) -> Result<Outcome, Fault> {
     let wish = Wish {
         task,
         is_partial: request.has_flag,
+        dialect: request.dialect(),
     };
     let mut out = BufWriter::new(rt.alloc(), io::writer(rt))?;
     let mut changes = Changes::new();

@@ -5,11 +5,12 @@ use crate::partly::lay_out_partly;
 use crate::replace::replace;
 use crate::slip::{slip_in, write_slip};
 use crate::trivia::is_trivia;
-use std::alloc::Global;
+use std::alloc::{AllocError, Global};
 use std::io::Write;
 use std::rt::Runtime;
-use weedle_formatter::format;
-use weedle_program::{Fault, Outcome};
+use weedle_formatter::{Formatted, format, format_in};
+use weedle_program::{Fault, Outcome, write_todays};
+use weedle_syntax::Dialect;
 
 /// What the work on a text came to.
 #[derive(Clone, Copy)]
@@ -27,6 +28,8 @@ pub struct Wish {
     pub task: Task,
     /// What is read of a text that is refused is formatted, too.
     pub is_partial: bool,
+    /// Whose rules it is read by.
+    pub dialect: Dialect,
 }
 
 /// Formats a text, and does with it what is asked for. A text of whitespace and comments alone is
@@ -49,7 +52,7 @@ pub fn work_on<R: Runtime + AllocGlobal, W: Write, S: Write>(
             changes: false,
         });
     }
-    let Some(answer) = format(rt.alloc(), text)? else {
+    let Some(answer) = formatted(rt.alloc(), text, wish.dialect)? else {
         return refuse(rt, wish, name, text, out, said);
     };
     let changes = answer.text.as_str() != text;
@@ -67,6 +70,18 @@ pub fn work_on<R: Runtime + AllocGlobal, W: Write, S: Write>(
     })
 }
 
+/// The text formatted by the rules of a dialect, where they read it whole.
+pub fn formatted(
+    alloc: Global,
+    text: &str,
+    dialect: Dialect,
+) -> Result<Option<Formatted>, AllocError> {
+    match dialect {
+        Dialect::Weedle2 => format(alloc, text),
+        Dialect::Today => format_in(alloc, text, dialect),
+    }
+}
+
 /// Says why a text is refused. What is read of it is formatted before, where that is asked for.
 fn refuse<R: Runtime + AllocGlobal, W: Write, S: Write>(
     rt: &R,
@@ -78,11 +93,11 @@ fn refuse<R: Runtime + AllocGlobal, W: Write, S: Write>(
 ) -> Result<Done, Fault> {
     let mut changes = false;
     if wish.is_partial {
-        let laid_out = lay_out_partly(rt.alloc(), text)?;
+        let laid_out = lay_out_partly(rt.alloc(), text, wish.dialect)?;
         changes = laid_out.as_slice() != text.as_bytes();
         hand_out(rt, wish.task, name, &laid_out, changes, out)?;
     }
-    write_refusal(rt.alloc(), name, text, said)?;
+    write_refusal(rt.alloc(), wish.dialect, name, text, said)?;
     Ok(Done {
         outcome: Outcome::Refused,
         changes,
@@ -113,13 +128,15 @@ fn hand_out<R: Runtime + AllocGlobal, W: Write>(
     Ok(Outcome::Success)
 }
 
-/// Writes where a text is refused and why.
+/// Writes where a text is refused and why, and whether today's rules read what weedle2's refuse.
 fn write_refusal<W: Write>(
     alloc: Global,
+    dialect: Dialect,
     name: &str,
     text: &str,
     out: &mut W,
 ) -> Result<(), Fault> {
-    let slip = slip_in(alloc, text)?;
-    Ok(write_slip(name, text, &slip, out)?)
+    let slip = slip_in(alloc, text, dialect)?;
+    write_slip(name, text, &slip, out)?;
+    Ok(write_todays(alloc, dialect, text, out)?)
 }

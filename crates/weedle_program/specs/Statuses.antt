@@ -1,7 +1,7 @@
 -- What faults come to, and exit statuses.
 use Rattle.std.specs.Prelude.{ℕ}
 use Rattle.weedle_program.specs.declared.fault.Fault.{Fault}
-use Rattle.weedle_program.specs.declared.fault.Fault.TheVariants.{Input, NotUtf8, Memory, Replace, Output, NoText, Usage}
+use Rattle.weedle_program.specs.declared.fault.Fault.TheVariants.{Input, NotUtf8, Memory, Replace, Output, NoText, TooDeep, Usage}
 use Rattle.weedle_program.specs.declared.outcome.Outcome.{Outcome}
 use Rattle.weedle_program.specs.declared.outcome.Outcome.TheVariants.{Success, Different, Refused, Unreadable, NoMemory, Unwritten, Misused}
 
@@ -23,4 +23,5 @@ outcome_of Memory = NoMemory
 outcome_of (Replace error) = Unwritten
 outcome_of Output = Unwritten
 outcome_of NoText = Unwritten
+outcome_of TooDeep = Refused
 outcome_of (Usage usage) = Misused

@@ -4,6 +4,7 @@ use crate::fault::Fault;
 use std::alloc::{AllocError, Global};
 use std::env::{self, Args};
 use std::rt::Runtime;
+use weedle_syntax::Dialect;
 
 /// A word that may be beside any option of a program.
 #[derive(Clone, Copy, Debug, PartialEq, Eq)]
@@ -16,12 +17,14 @@ pub enum Beside {
     Number(&'static str),
 }
 
-/// What the arguments ask for: `--help`, one option at most beside it, a word that may be beside
-/// that, and names of files.
+/// What the arguments ask for: `--help` and `--today`, one option at most beside them, a word that
+/// may be beside that, and names of files.
 #[derive(Debug, Drop)]
 pub struct Request {
     /// How the program is used is asked for, by `--help`.
     pub is_help: bool,
+    /// Today's rules are asked for, by `--today`.
+    pub is_today: bool,
     /// The option, as `--check`; whether there is such an option is the program's to say.
     pub option: Option<String>,
     /// The word that may be beside it is given.
@@ -59,13 +62,21 @@ impl Request {
         }
     }
 
+    /// Whose rules the files are read by: weedle2's, or today's where `--today` asks for them.
+    pub fn dialect(&self) -> Dialect {
+        if self.is_today {
+            Dialect::Today
+        } else {
+            Dialect::Weedle2
+        }
+    }
+
     /// Takes an option, a number or a file's name, and says whether there is use for it.
     fn take(&mut self, word: String, beside: Beside) -> Result<bool, AllocError> {
         if self.awaits {
             return Ok(self.set_number(word.as_str()));
         }
-        if word.as_str() == "--help" {
-            self.is_help = true;
+        if self.is_common(word.as_str()) {
             return Ok(true);
         }
         if self.is_beside(word.as_str(), beside) {
@@ -78,6 +89,16 @@ impl Request {
         }
         self.files.push(word)?;
         Ok(true)
+    }
+
+    /// Takes a word that each program knows, and says whether it is one.
+    fn is_common(&mut self, word: &str) -> bool {
+        match word {
+            "--help" => self.is_help = true,
+            "--today" => self.is_today = true,
+            _ => return false,
+        }
+        true
     }
 
     /// Takes the word that may be beside the option, and says whether it is that one.
@@ -121,6 +142,7 @@ impl Request {
 fn request_of(alloc: Global, words: Args, beside: Beside) -> Result<Option<Request>, AllocError> {
     let mut request = Request {
         is_help: false,
+        is_today: false,
         option: None,
         has_flag: false,
         number: None,

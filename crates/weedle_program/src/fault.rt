@@ -23,6 +23,8 @@ pub enum Fault {
     Output,
     /// What was read has no text. No text is known of which that is so.
     NoText,
+    /// What is asked for is read by descent alone, and the text nests too deep for that.
+    TooDeep,
     /// The arguments ask for nothing that the program does: this is its usage.
     Usage(&'static str),
 }
@@ -55,6 +57,7 @@ impl Fault {
         match self {
             Fault::Input(_) | Fault::NotUtf8 => Outcome::Unreadable,
             Fault::Memory => Outcome::NoMemory,
+            Fault::TooDeep => Outcome::Refused,
             Fault::Replace(_) | Fault::Output | Fault::NoText => Outcome::Unwritten,
             Fault::Usage(_) => Outcome::Misused,
         }
@@ -89,6 +92,7 @@ impl Display for Fault {
             Fault::Replace(error) => write!(f, "cannot replace the file: {error}"),
             Fault::Output => f.write_str("cannot write output"),
             Fault::NoText => f.write_str("cannot write a value: no text says it"),
+            Fault::TooDeep => f.write_str("nests too deep for today's rules"),
             Fault::Usage(usage) => f.write_str(usage),
         }
     }

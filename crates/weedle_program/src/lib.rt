@@ -1,5 +1,5 @@
-//! What the programs have in common: their command line, the texts that they read, and what a run
-//! comes to, with its exit status.
+//! What the programs have in common: their command line, the texts that they read, what is said
+//! where today's rules read a refused one, and what a run comes to, with its exit status.
 //!
 //! A program is a function from the runtime to a `Result<Outcome, Fault>`, and [`ended`] makes the
 //! exit status of it:
@@ -26,6 +26,7 @@ mod input;
 mod outcome;
 mod run;
 mod tally;
+mod today;
 
 pub use arguments::{Beside, Request};
 pub use fault::Fault;
@@ -33,3 +34,4 @@ pub use input::{name_of, text_in, text_of};
 pub use outcome::Outcome;
 pub use run::{ended, failed};
 pub use tally::Tally;
+pub use today::{is_todays, write_todays};

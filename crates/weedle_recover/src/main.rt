@@ -1,5 +1,9 @@
 //! Prints the parts of the text on standard input: what is read of it, and what isn't.
 //!
+//! ```text
+//! weedle_recover [--today]
+//! ```
+//!
 //! Each line says whether a part is read, its rule, where it begins and ends, and where the
 //! definition begins that it belongs to, in bytes from the front of the text; the last one how many
 //! nodes were written. For `typedef long;` that is
@@ -11,22 +15,19 @@
 //! unread identifier 12 13 0
 //! 25 nodes
 //! ```
+//!
+//! It reads by weedle2's rules, and with `--today` by today's. Where weedle2's don't read all parts,
+//! and today's read the whole text, a line more says so: `today's WebIDL reads it: --today`.
+//!
+//! The status is 0 where there is an answer, 1 where the text nests too deep for today's rules, 2
+//! where the input can't be read or isn't UTF-8, 3 where memory ran out, 4 where the output can't be
+//! written, and 5 where the arguments are others.
 #![tactic(auto)]
 
-use std::io::{self, Write};
-use weedle_recovery::recover;
+mod program;
 
-fn main(rt: HostRuntime) -> io::Result<()> {
-    let alloc = rt.alloc();
-    let text = io::read_to_string(alloc, rt.reader())?;
-    let found = recover(alloc, &text)?;
-    for part in &found.parts {
-        let word = if part.is_read { "read" } else { "unread" };
-        let name = part.rule.name();
-        println!(rt;
-            "{word} {name} {} {} {}",
-            part.start, part.end, part.definition
-        )?;
-    }
-    println!(rt; "{} nodes", found.nodes.len())
+use std::process::ExitCode;
+
+fn main(rt: HostRuntime) -> ExitCode {
+    ExitCode::from(program::run(&rt).status())
 }

@@ -1,7 +1,7 @@
 //! Says what a packrat table tells of the text on standard input.
 //!
 //! ```text
-//! weedle_table places | names | diagnosis
+//! weedle_table [--today] places | names | diagnosis
 //! ```
 //!
 //! With `places` it prints where each definition is, in bytes from the front of the text: the whole
@@ -26,10 +26,12 @@
 //!
 //! It fills a packrat table of the whole text, whatever the text is. So tests see by it that each
 //! call over a table answers where memory is ample, also of a long text, and how much it asks for.
+//! With `--today` it reads by today's rules, which have no table: by descent, and for places and
+//! names over a memo where that isn't enough.
 //!
-//! The status is 0 where there is an answer, 1 where a text has no places, 2 where the input can't
-//! be read or isn't UTF-8, 3 where memory ran out, 4 where the output can't be written, and 5 where
-//! the argument is another.
+//! The status is 0 where there is an answer, 1 where a text has no places or nests too deep for its
+//! diagnosis, 2 where the input can't be read or isn't UTF-8, 3 where memory ran out, 4 where the
+//! output can't be written, and 5 where the arguments are others.
 #![tactic(auto)]
 
 mod program;
