@@ -62,10 +62,15 @@ for standard in c++98 c++11 c++17; do
     "$CXX" -std=$standard $warnings -x c++ -fsyntax-only "$top/include/weedle.h"
 done
 
-# Builds the programs of tests, with these flags more. The first two refuse requests for memory, so their functions stand
+# The texts of tests/ that the calls with a dialect are given.
+texts=$(mktemp -d)
+trap 'rm -rf "$texts"' EXIT
+python3 -m tarfile -e "$top/tests/tests.tar.xz" "$texts"
+
+# Builds the programs of tests, with these flags more. All but the last refuse requests for memory, so their functions stand
 # before the C library's own.
 build_tests() {
-    for name in test_weedle test_recovery; do
+    for name in test_weedle test_recovery test_dialects; do
         "$CC" -std=c11 $warnings "$@" -I"$top/include" -o "$out/$name" \
             "$top/c/tests/$name.c" "$library" -pthread -Wl,--wrap=malloc,--wrap=realloc
     done
@@ -77,6 +82,7 @@ build_tests() {
 run_tests() {
     "$@" "$out/test_weedle"
     "$@" "$out/test_recovery"
+    "$@" "$out/test_dialects" "$texts"/*.webidl
     "$@" "$out/test_hostile" "$top/tests/families.txt"
 }
 

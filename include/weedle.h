@@ -5,8 +5,8 @@
  *     uint32_t status = weedle_syntax(text, length, nodes, room, &answer);
  *
  * What is said below of each status, of the fields of an answer and of what is written is proved of the library,
- * against the grammar: each such sentence is a clause of crates/weedle_c/src/lib.rt, but those with '(tested)' behind
- * them. What a call costs is measured. All this holds for callers that keep the following:
+ * against the grammar: each such sentence is a clause of crates/weedle_c/src/lib.rt or of by_dialect.rt beside it, but
+ * those with '(tested)' behind them. What a call costs is measured. All this holds for callers that keep the following:
  *
  * - A pointer and the length or room behind it belong together: so many bytes, or so many nodes, can be
  *   read there, or written. No length and no room is more than PTRDIFF_MAX bytes.
@@ -40,7 +40,7 @@ extern "C" {
 #define WEEDLE_VERSION 0x000b00
 
 /* How many rules the grammar of this header has. weedle_rules() says it of the library. */
-#define WEEDLE_RULE_COUNT 386
+#define WEEDLE_RULE_COUNT 520
 
 /* What a call comes to. */
 enum weedle_status {
@@ -51,7 +51,15 @@ enum weedle_status {
     WEEDLE_STATUS_NO_ROOM = 4, /* It does, and its nodes need more room. */
     WEEDLE_STATUS_TOO_LONG = 5, /* The text is longer, or nests deeper, than the numbers of a node hold. */
     WEEDLE_STATUS_NO_RULE = 6, /* No rule has the number. */
-    WEEDLE_STATUS_NO_PLACE = 7 /* The text has no such place, or no such unread part. */
+    WEEDLE_STATUS_NO_PLACE = 7, /* The text has no such place, or no such unread part. */
+    WEEDLE_STATUS_NO_DIALECT = 8, /* No dialect has the number. */
+    WEEDLE_STATUS_TOO_DEEP = 9 /* Descent doesn't read what is asked for, since it nests too deep or takes too many steps, and the dialect's rules have no table. */
+};
+
+/* Whose rules a text is read by. weedle_syntax and the other calls without a dialect read by weedle2's. */
+enum weedle_dialect {
+    WEEDLE_DIALECT_WEEDLE2 = 0, /* weedle2's rules. */
+    WEEDLE_DIALECT_TODAY = 1 /* Today's, which read what weedle2's read, and more. */
 };
 
 /* A rule that was read, and the bytes that it took. */
@@ -62,12 +70,12 @@ struct weedle_node {
     uint32_t end;   /* where it ends: the place behind its last byte */
 };
 
-/* What weedle_syntax and weedle_syntax_of say beside their status. */
+/* What weedle_syntax, weedle_syntax_of and weedle_syntax_in say beside their status. */
 struct weedle_answer {
     size_t count; /* WEEDLE_STATUS_READ, WEEDLE_STATUS_NO_ROOM: how many nodes there are; else 0 */
     size_t rest;  /* WEEDLE_STATUS_READ, WEEDLE_STATUS_NO_ROOM: where the remaining input begins, in bytes from the front
-                     of the text: of weedle_syntax at its end;
-                     WEEDLE_STATUS_REFUSED: the same of weedle_syntax, and 0 of weedle_syntax_of;
+                     of the text: of weedle_syntax and weedle_syntax_in at its end;
+                     WEEDLE_STATUS_REFUSED: the same of these two, and 0 of weedle_syntax_of;
                      WEEDLE_STATUS_NOT_UTF8: the byte up to which the text is UTF-8; else 0 */
 };
 
@@ -86,9 +94,9 @@ enum weedle_hint {
     WEEDLE_HINT_NO_DEFINITIONS = 10 /* The text has no definitions. */
 };
 
-/* What weedle_explain, weedle_explain_from and weedle_explain_part say beside their status. Places are in bytes from the
-   front of the text. With any status but WEEDLE_STATUS_REFUSED all of it is 0, but `place` with
-   WEEDLE_STATUS_NOT_UTF8. */
+/* What weedle_explain, weedle_explain_from and weedle_explain_part say beside their status, and the same calls with a
+   dialect. Places are in bytes from the front of the text. With any status but WEEDLE_STATUS_REFUSED all of it is 0, but
+   `place` with WEEDLE_STATUS_NOT_UTF8. */
 struct weedle_refusal {
     size_t start;       /* where the remaining input begins, or the unread part */
     size_t place;       /* the furthest place to which the reading comes;
@@ -103,7 +111,7 @@ struct weedle_refusal {
     size_t hint_offset; /* where the hint's line begins in the message, which is `length` where there is none */
 };
 
-/* What weedle_expected and weedle_expected_part say beside their status. */
+/* What weedle_expected and weedle_expected_part say beside their status, and the same calls with a dialect. */
 struct weedle_expected_words {
     size_t count;  /* WEEDLE_STATUS_READ, WEEDLE_STATUS_NO_ROOM: how many words there are; else 0 */
     size_t length; /* WEEDLE_STATUS_READ, WEEDLE_STATUS_NO_ROOM: how many bytes they have, with a zero behind each; else 0 */
@@ -120,7 +128,7 @@ struct weedle_part {
     uint32_t definition; /* where the definition begins that it belongs to */
 };
 
-/* What weedle_recover says beside its status. */
+/* What weedle_recover and weedle_recover_in say beside their status. */
 struct weedle_recovered {
     size_t parts;  /* WEEDLE_STATUS_READ, WEEDLE_STATUS_NO_ROOM: how many parts there are; else 0 */
     size_t nodes;  /* WEEDLE_STATUS_READ, WEEDLE_STATUS_NO_ROOM: how many nodes those have that are read; else 0 */
@@ -128,7 +136,7 @@ struct weedle_recovered {
     size_t rest;   /* WEEDLE_STATUS_NOT_UTF8: the byte up to which the text is UTF-8; else 0 */
 };
 
-/* What weedle_format says beside its status. */
+/* What weedle_format and weedle_format_in say beside their status. */
 struct weedle_formatted {
     size_t length;      /* WEEDLE_STATUS_READ, WEEDLE_STATUS_NO_ROOM: how many bytes there are; else 0 */
     size_t rest;        /* as weedle_answer has it of weedle_syntax */
@@ -323,6 +331,79 @@ uint32_t weedle_expected_part(
  * Where the layout alone needs a table, or comments follow one another with nothing between, it was up to nine times.
  */
 uint32_t weedle_format(
+    const char *text, size_t length,
+    char *out, size_t room,
+    struct weedle_formatted *formatted);
+
+/*
+ * The calls that take a dialect read a text by its rules, as the call without `_in` does by weedle2's: `dialect` is an
+ * enum weedle_dialect. Their statuses, what they write, and what the fields of an answer say is that of the call without
+ * `_in`, where 'the grammar' is that of the dialect. Besides
+ *
+ * WEEDLE_STATUS_NO_DIALECT: exactly where no dialect has the number `dialect`. The text isn't looked at then, and
+ *     WEEDLE_STATUS_NOT_UTF8 and WEEDLE_STATUS_NO_PLACE aren't answered. All of the answer is 0 (tested).
+ * WEEDLE_STATUS_TOO_DEEP: the text nests deeper, or takes more steps, than descent reads, as hundreds of `sequence<` that
+ *     are open (tested). By weedle2's rules it isn't answered: they take a table then, which today's don't have. It is
+ *     answered by weedle_explain_in, weedle_expected_in, weedle_recover_in, weedle_explain_part_in and
+ *     weedle_expected_part_in alone.
+ *
+ * By WEEDLE_DIALECT_WEEDLE2 each answers what the call without `_in` answers (tested).
+ *
+ * Today's rules read what weedle2's read, and more, as `[Exposed=*] interface A {};` and a text of comments alone:
+ * docs/TODAY.md says what. A text that both read has one layout (tested).
+ */
+
+/* As weedle_syntax does; it costs the same. */
+uint32_t weedle_syntax_in(
+    uint32_t dialect,
+    const char *text, size_t length,
+    struct weedle_node *nodes, size_t room,
+    struct weedle_answer *answer);
+
+/* As weedle_explain_from does, and with a `start` of 0 as weedle_explain. A text that is read whole by today's rules and
+   not by weedle2's says so in no message: compare both. */
+uint32_t weedle_explain_in(
+    uint32_t dialect,
+    const char *text, size_t length, size_t start,
+    char *message, size_t room,
+    struct weedle_refusal *refusal);
+
+/* As weedle_expected does. */
+uint32_t weedle_expected_in(
+    uint32_t dialect,
+    const char *text, size_t length, size_t start,
+    char *words, size_t room,
+    struct weedle_expected_words *expected);
+
+/* As weedle_recover does. The rules of parts are those of the dialect: a definition that today's rules read is a part of
+   WEEDLE_TODAY_DEFINITION, and each docstring, comment and run of whitespace that none follows one of WEEDLE_TODAY_PIECE. By
+   today's rules it reads by descent alone. */
+uint32_t weedle_recover_in(
+    uint32_t dialect,
+    const char *text, size_t length,
+    struct weedle_part *parts, size_t part_room,
+    struct weedle_node *nodes, size_t room,
+    struct weedle_recovered *recovered);
+
+/* As weedle_explain_part does, of a part that weedle_recover_in left unread by the same dialect. */
+uint32_t weedle_explain_part_in(
+    uint32_t dialect,
+    const char *text, size_t length,
+    const struct weedle_part *part,
+    char *message, size_t room,
+    struct weedle_refusal *refusal);
+
+/* As weedle_expected_part does, of such a part. */
+uint32_t weedle_expected_part_in(
+    uint32_t dialect,
+    const char *text, size_t length,
+    const struct weedle_part *part,
+    char *words, size_t room,
+    struct weedle_expected_words *expected);
+
+/* As weedle_format does; it costs the same. */
+uint32_t weedle_format_in(
+    uint32_t dialect,
     const char *text, size_t length,
     char *out, size_t room,
     struct weedle_formatted *formatted);
@@ -731,7 +812,145 @@ enum weedle_rule {
     WEEDLE_INCLUDES_STATEMENT_DEFINITION = 382,
     WEEDLE_IMPLEMENTS_DEFINITION = 383,
     WEEDLE_DEFINITION = 384,
-    WEEDLE_DEFINITIONS = 385
+    WEEDLE_DEFINITIONS = 385,
+    /* Words, a symbol, literals and docstrings of today's WebIDL. */
+    WEEDLE_BYTES_ASTERISK = 386,
+    WEEDLE_ASTERISK = 387,
+    WEEDLE_BYTES_BIG_INT = 388,
+    WEEDLE_BIG_INT = 389,
+    WEEDLE_BYTES_ASYNC_ITERABLE_WORD = 390,
+    WEEDLE_ASYNC_ITERABLE_WORD = 391,
+    WEEDLE_BYTES_ASYNC_SEQUENCE = 392,
+    WEEDLE_ASYNC_SEQUENCE = 393,
+    WEEDLE_BYTES_OBSERVABLE_ARRAY = 394,
+    WEEDLE_OBSERVABLE_ARRAY = 395,
+    WEEDLE_BYTES_FLOAT16_ARRAY = 396,
+    WEEDLE_FLOAT16_ARRAY = 397,
+    WEEDLE_BYTES_BIG_INT64_ARRAY = 398,
+    WEEDLE_BIG_INT64_ARRAY = 399,
+    WEEDLE_BYTES_BIG_UINT64_ARRAY = 400,
+    WEEDLE_BIG_UINT64_ARRAY = 401,
+    WEEDLE_BYTES_SHARED_ARRAY_BUFFER = 402,
+    WEEDLE_SHARED_ARRAY_BUFFER = 403,
+    WEEDLE_TODAY_DOC = 404,
+    WEEDLE_TODAY_DOCS = 405,
+    WEEDLE_TODAY_LAST_DOC = 406,
+    WEEDLE_TODAY_TRIVIA = 407,
+    WEEDLE_TODAY_DEFAULT_VALUE = 408,
+    WEEDLE_TODAY_DEFAULT = 409,
+    WEEDLE_OPT_TODAY_DEFAULT = 410,
+    WEEDLE_MAY_BE_NULL_BIG_INT = 411,
+    WEEDLE_TODAY_CONST_TYPE = 412,
+    WEEDLE_TAIL_STRING_LIT_COMMA = 413,
+    WEEDLE_TODAY_STRING_LIST = 414,
+    WEEDLE_PARENTHESIZED_TODAY_STRINGS = 415,
+    WEEDLE_TODAY_NUMBER = 416,
+    WEEDLE_TAIL_TODAY_NUMBER_COMMA = 417,
+    WEEDLE_TODAY_NUMBER_LIST = 418,
+    WEEDLE_PARENTHESIZED_TODAY_NUMBERS = 419,
+    /* Today's types, extended attributes and arguments, which read one another. */
+    WEEDLE_GENERICS_TODAY_ATTRIBUTED_TYPE = 420,
+    WEEDLE_TODAY_SEQUENCE_TYPE = 421,
+    WEEDLE_TODAY_ASYNC_SEQUENCE_TYPE = 422,
+    WEEDLE_TODAY_FROZEN_ARRAY_TYPE = 423,
+    WEEDLE_TODAY_OBSERVABLE_ARRAY_TYPE = 424,
+    WEEDLE_GENERICS_TODAY_TYPE = 425,
+    WEEDLE_TODAY_PROMISE_TYPE = 426,
+    WEEDLE_GENERICS_TODAY_RECORD_TYPES = 427,
+    WEEDLE_TODAY_RECORD_TYPE = 428,
+    WEEDLE_TODAY_UNION_TYPE = 429,
+    WEEDLE_MAY_BE_NULL_TODAY_UNION_TYPE = 430,
+    WEEDLE_TODAY_WORD_TYPE = 431,
+    WEEDLE_TODAY_GENERIC_TYPE = 432,
+    WEEDLE_MAY_BE_NULL_TODAY_WORD_TYPE = 433,
+    WEEDLE_MAY_BE_NULL_TODAY_GENERIC_TYPE = 434,
+    WEEDLE_TODAY_NON_ANY_TYPE = 435,
+    WEEDLE_TODAY_KEY_TYPE = 436,
+    WEEDLE_TODAY_RECORD_TYPES = 437,
+    WEEDLE_TODAY_TYPE = 438,
+    WEEDLE_TODAY_ATTRIBUTES = 439,
+    WEEDLE_TODAY_ATTRIBUTE_LISTS = 440,
+    WEEDLE_TODAY_ATTRIBUTED_TYPE = 441,
+    WEEDLE_TODAY_ATTRIBUTED_NON_ANY_TYPE = 442,
+    WEEDLE_TODAY_UNION_MEMBER_TYPE = 443,
+    WEEDLE_TAIL_TODAY_UNION_MEMBER_TYPE_OR = 444,
+    WEEDLE_LIST1_TODAY_UNION_MEMBER_TYPE_OR = 445,
+    WEEDLE_TODAY_OPTIONAL_ARGUMENT = 446,
+    WEEDLE_OPT_ELLIPSIS = 447,
+    WEEDLE_TODAY_REQUIRED_ARGUMENT = 448,
+    WEEDLE_TODAY_ARGUMENT_KIND = 449,
+    WEEDLE_TODAY_ARGUMENT = 450,
+    WEEDLE_TAIL_TODAY_ARGUMENT_COMMA = 451,
+    WEEDLE_TODAY_ARGUMENT_LIST = 452,
+    WEEDLE_TODAY_ARGUMENTS = 453,
+    WEEDLE_TODAY_ATTRIBUTE_ARG_LIST = 454,
+    WEEDLE_TODAY_ATTRIBUTE_NAMED_ARG_LIST = 455,
+    WEEDLE_TODAY_ATTRIBUTE_WILDCARD = 456,
+    WEEDLE_TODAY_ATTRIBUTE_NUMBER = 457,
+    WEEDLE_TODAY_ATTRIBUTE_STRINGS = 458,
+    WEEDLE_TODAY_ATTRIBUTE_NUMBERS = 459,
+    WEEDLE_TODAY_ATTRIBUTE = 460,
+    WEEDLE_TAIL_TODAY_ATTRIBUTE_COMMA = 461,
+    WEEDLE_LIST_TODAY_ATTRIBUTE_COMMA = 462,
+    /* Today's members: docstrings and extended attributes, and then of which kind it is. */
+    WEEDLE_TODAY_KEY_AND_VALUE_TYPES = 463,
+    WEEDLE_GENERICS_TODAY_KEY_AND_VALUE_TYPES = 464,
+    WEEDLE_TODAY_SECOND_TYPE = 465,
+    WEEDLE_OPT_TODAY_SECOND_TYPE = 466,
+    WEEDLE_TODAY_ITERATED = 467,
+    WEEDLE_TODAY_CONST = 468,
+    WEEDLE_TODAY_ATTRIBUTE_MEMBER = 469,
+    WEEDLE_TODAY_CONSTRUCTOR = 470,
+    WEEDLE_TODAY_OPERATION = 471,
+    WEEDLE_TODAY_ITERABLE = 472,
+    WEEDLE_TODAY_ASYNC_WORDS = 473,
+    WEEDLE_OPT_TODAY_ARGUMENTS = 474,
+    WEEDLE_TODAY_ASYNC_ITERABLE = 475,
+    WEEDLE_TODAY_MAPLIKE = 476,
+    WEEDLE_TODAY_SETLIKE = 477,
+    WEEDLE_TODAY_STRINGIFIER = 478,
+    WEEDLE_TODAY_INTERFACE_MEMBER_KIND = 479,
+    WEEDLE_TODAY_INTERFACE_MEMBER = 480,
+    WEEDLE_TODAY_MIXIN_OPERATION = 481,
+    WEEDLE_TODAY_MIXIN_ATTRIBUTE = 482,
+    WEEDLE_TODAY_MIXIN_MEMBER_KIND = 483,
+    WEEDLE_TODAY_MIXIN_MEMBER = 484,
+    WEEDLE_TODAY_NAMESPACE_OPERATION = 485,
+    WEEDLE_TODAY_NAMESPACE_ATTRIBUTE = 486,
+    WEEDLE_TODAY_NAMESPACE_MEMBER_KIND = 487,
+    WEEDLE_TODAY_NAMESPACE_MEMBER = 488,
+    WEEDLE_TODAY_DICTIONARY_MEMBER = 489,
+    WEEDLE_TODAY_ENUM_VALUE = 490,
+    WEEDLE_TAIL_TODAY_ENUM_VALUE_COMMA = 491,
+    WEEDLE_LIST1_TODAY_ENUM_VALUE_COMMA = 492,
+    WEEDLE_TODAY_INTERFACE_MEMBERS = 493,
+    WEEDLE_BRACED_TODAY_INTERFACE_MEMBERS = 494,
+    WEEDLE_TODAY_MIXIN_MEMBERS = 495,
+    WEEDLE_BRACED_TODAY_MIXIN_MEMBERS = 496,
+    WEEDLE_TODAY_NAMESPACE_MEMBERS = 497,
+    WEEDLE_BRACED_TODAY_NAMESPACE_MEMBERS = 498,
+    WEEDLE_TODAY_DICTIONARY_MEMBERS = 499,
+    WEEDLE_BRACED_TODAY_DICTIONARY_MEMBERS = 500,
+    WEEDLE_BRACED_TODAY_ENUM_VALUES = 501,
+    /* Today's definitions. */
+    WEEDLE_TODAY_CALLBACK = 502,
+    WEEDLE_TODAY_CALLBACK_INTERFACE = 503,
+    WEEDLE_TODAY_INTERFACE = 504,
+    WEEDLE_TODAY_MIXIN = 505,
+    WEEDLE_TODAY_NAMESPACE = 506,
+    WEEDLE_TODAY_DICTIONARY = 507,
+    WEEDLE_TODAY_PARTIAL_INTERFACE = 508,
+    WEEDLE_TODAY_PARTIAL_MIXIN = 509,
+    WEEDLE_TODAY_PARTIAL_DICTIONARY = 510,
+    WEEDLE_TODAY_PARTIAL_NAMESPACE = 511,
+    WEEDLE_TODAY_ENUM = 512,
+    WEEDLE_TODAY_TYPEDEF = 513,
+    WEEDLE_TODAY_INCLUDES = 514,
+    WEEDLE_TODAY_IMPLEMENTS = 515,
+    WEEDLE_TODAY_DEFINITION_KIND = 516,
+    WEEDLE_TODAY_DEFINITION = 517,
+    WEEDLE_TODAY_PIECE = 518,
+    WEEDLE_TODAY_DEFINITIONS = 519
 };
 
 /* Their names, by number. */
@@ -1121,7 +1340,141 @@ static const char *const weedle_rule_names[WEEDLE_RULE_COUNT] = {
     "includes_statement_definition",
     "implements_definition",
     "definition",
-    "definitions"
+    "definitions",
+    "bytes_asterisk",
+    "asterisk",
+    "bytes_big_int",
+    "big_int",
+    "bytes_async_iterable_word",
+    "async_iterable_word",
+    "bytes_async_sequence",
+    "async_sequence",
+    "bytes_observable_array",
+    "observable_array",
+    "bytes_float16_array",
+    "float16_array",
+    "bytes_big_int64_array",
+    "big_int64_array",
+    "bytes_big_uint64_array",
+    "big_uint64_array",
+    "bytes_shared_array_buffer",
+    "shared_array_buffer",
+    "today_doc",
+    "today_docs",
+    "today_last_doc",
+    "today_trivia",
+    "today_default_value",
+    "today_default",
+    "opt_today_default",
+    "may_be_null_big_int",
+    "today_const_type",
+    "tail_string_lit_comma",
+    "today_string_list",
+    "parenthesized_today_strings",
+    "today_number",
+    "tail_today_number_comma",
+    "today_number_list",
+    "parenthesized_today_numbers",
+    "generics_today_attributed_type",
+    "today_sequence_type",
+    "today_async_sequence_type",
+    "today_frozen_array_type",
+    "today_observable_array_type",
+    "generics_today_type",
+    "today_promise_type",
+    "generics_today_record_types",
+    "today_record_type",
+    "today_union_type",
+    "may_be_null_today_union_type",
+    "today_word_type",
+    "today_generic_type",
+    "may_be_null_today_word_type",
+    "may_be_null_today_generic_type",
+    "today_non_any_type",
+    "today_key_type",
+    "today_record_types",
+    "today_type",
+    "today_attributes",
+    "today_attribute_lists",
+    "today_attributed_type",
+    "today_attributed_non_any_type",
+    "today_union_member_type",
+    "tail_today_union_member_type_or",
+    "list1_today_union_member_type_or",
+    "today_optional_argument",
+    "opt_ellipsis",
+    "today_required_argument",
+    "today_argument_kind",
+    "today_argument",
+    "tail_today_argument_comma",
+    "today_argument_list",
+    "today_arguments",
+    "today_attribute_arg_list",
+    "today_attribute_named_arg_list",
+    "today_attribute_wildcard",
+    "today_attribute_number",
+    "today_attribute_strings",
+    "today_attribute_numbers",
+    "today_attribute",
+    "tail_today_attribute_comma",
+    "list_today_attribute_comma",
+    "today_key_and_value_types",
+    "generics_today_key_and_value_types",
+    "today_second_type",
+    "opt_today_second_type",
+    "today_iterated",
+    "today_const",
+    "today_attribute_member",
+    "today_constructor",
+    "today_operation",
+    "today_iterable",
+    "today_async_words",
+    "opt_today_arguments",
+    "today_async_iterable",
+    "today_maplike",
+    "today_setlike",
+    "today_stringifier",
+    "today_interface_member_kind",
+    "today_interface_member",
+    "today_mixin_operation",
+    "today_mixin_attribute",
+    "today_mixin_member_kind",
+    "today_mixin_member",
+    "today_namespace_operation",
+    "today_namespace_attribute",
+    "today_namespace_member_kind",
+    "today_namespace_member",
+    "today_dictionary_member",
+    "today_enum_value",
+    "tail_today_enum_value_comma",
+    "list1_today_enum_value_comma",
+    "today_interface_members",
+    "braced_today_interface_members",
+    "today_mixin_members",
+    "braced_today_mixin_members",
+    "today_namespace_members",
+    "braced_today_namespace_members",
+    "today_dictionary_members",
+    "braced_today_dictionary_members",
+    "braced_today_enum_values",
+    "today_callback",
+    "today_callback_interface",
+    "today_interface",
+    "today_mixin",
+    "today_namespace",
+    "today_dictionary",
+    "today_partial_interface",
+    "today_partial_mixin",
+    "today_partial_dictionary",
+    "today_partial_namespace",
+    "today_enum",
+    "today_typedef",
+    "today_includes",
+    "today_implements",
+    "today_definition_kind",
+    "today_definition",
+    "today_piece",
+    "today_definitions"
 };
 
 /* The name of a rule, or null of a number that no rule has. */

@@ -169,6 +169,20 @@ static void test_each_rule(void) {
     }
 }
 
+/* A text of today's WebIDL, which weedle2's rules refuse, by the rule of today's definitions. */
+static void test_todays_rules(void) {
+    static const char text[] = "[Exposed=*] interface A { async_iterable<long>; }; // c";
+    size_t length = strlen(text);
+    struct weedle_node nodes[400];
+    struct weedle_answer answer;
+    CHECK(weedle_syntax(text, length, nodes, 400, &answer) == WEEDLE_STATUS_REFUSED && answer.rest == 0);
+    CHECK(weedle_syntax_of(WEEDLE_TODAY_DEFINITIONS, text, length, nodes, 400, &answer) == WEEDLE_STATUS_READ);
+    CHECK(answer.rest == length && nodes[0].end == length);
+    CHECK(nodes[0].rule == WEEDLE_TODAY_DEFINITIONS && nodes[1].rule == WEEDLE_TODAY_PIECE);
+    CHECK(weedle_syntax_of(WEEDLE_TODAY_DEFINITIONS, "interface A;", 12, nodes, 400, &answer) == WEEDLE_STATUS_READ);
+    CHECK(answer.rest == 0 && answer.count == 1);
+}
+
 static void test_what_is_refused(void) {
     static const char text[] = "interface A {}; enum E { \"a\" \"b\" };";
     struct weedle_node nodes[100];
@@ -556,6 +570,7 @@ static const struct test TESTS[] = {
     {"a rule at the front", test_a_rule_at_the_front},
     {"a rule that fails", test_a_rule_that_fails},
     {"each rule", test_each_rule},
+    {"today's rules", test_todays_rules},
     {"what is refused", test_what_is_refused},
     {"words of a refusal", test_words_of_a_refusal},
     {"a message is cut at a character", test_a_message_is_cut_at_a_character},

@@ -1,7 +1,8 @@
 pub mod FillFacts
 pub mod PartFacts
 pub mod WordFacts
-pub mod TreeFacts
 pub mod RuleFacts
+pub mod TreeFacts
+mod TodayFacts
 mod FormatFacts
 pub mod MessageFacts

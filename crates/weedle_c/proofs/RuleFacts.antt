@@ -6,7 +6,8 @@ use Rattle.weedle_c.specs.declared.reader.WeedleAnswer.{WeedleAnswer}
 use Rattle.weedle_syntax.specs.Syntax.{IsRuleFront, IsRuleTo, rest_of, a_tree}
 use Rattle.weedle_syntax.specs.declared.node.Node.{Node}
 
-root_first : (text : List ℕ) (rule end : ℕ) (ns : List Node) → IsRuleTo text rule end ns → rest_of ns ≡ end
+-- the first node's end
+pub root_first : (text : List ℕ) (rule end : ℕ) (ns : List Node) → IsRuleTo text rule end ns → rest_of ns ≡ end
 root_first text rule end ns (a_tree p a b e) = ap rest_of e
 
 module _ {text : List ℕ} {rule : ℕ} {ns : List Node} (front : IsRuleFront text rule ns) where

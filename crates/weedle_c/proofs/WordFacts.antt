@@ -2,14 +2,15 @@
 use Rattle.std.proofs.Common.{◌≡◌, ◌∙◌, ◌<◌, ◌+◌, ℕ, List, [], ◌∷◌, ◌++◌, length, take, get_or, sym, ap, append_assoc, append-nil}
 use Rattle.std.proofs.Math.Seq.{take-length}
 use Rattle.std.proofs.lemmas.List.{take_more}
-use Rattle.weedle_c.specs.Expectations.{AreLonger, ArePut, AreWritten, IsExpectedOfPart, words_bytes}
+use Rattle.weedle_c.specs.Expectations.{AreLonger, ArePut, AreWritten, IsExpectedOfPartIn, words_bytes}
 use Rattle.weedle_c.specs.Parts.{part_of}
 use Rattle.weedle_c.specs.declared.part.WeedlePart.{WeedlePart}
 use Rattle.weedle_c.specs.declared.words.WeedleExpected.{WeedleExpected}
-use Rattle.weedle_recovery.specs.Refusals.{IsPartRefusal}
+use Rattle.weedle_recovery.specs.Refusals.{IsPartRefusalIn}
 use Rattle.weedle_refusal.specs.Texts.{word_text}
 use Rattle.weedle_refusal.specs.declared.expected.Expected.{Expected}
 use Rattle.weedle_refusal.specs.declared.refusal.Refusal.{Refusal}
+use Rattle.weedle_syntax.specs.declared.dialect.Dialect.{Dialect}
 
 -- a text has the first i words
 pub record HasWords (words : List Expected) (text : List ℕ) (i : ℕ) : Type 0 where
@@ -47,6 +48,6 @@ module _ {Are Be : List Expected → ℕ → Type 0} (other : (words : List Expe
   longer_as {answer = answer} w = record { words = w.words; are = other w.words answer.place w.are; counted = w.counted; more = w.more }
 
 -- words that are expected where a part is read
-pub expected_of_part : (text : List ℕ) (part : WeedlePart) (refusal : Refusal) (items : List Expected) → IsPartRefusal text (part_of part) refusal
-    → items ≡ refusal.expected.items → (words : List Expected) (place : ℕ) → ArePut items refusal.place words place → IsExpectedOfPart text part words place
-expected_of_part text part refusal items is same words place (put, at) = (refusal, is, put ∙ same, at)
+pub expected_of_part : (d : Dialect) (text : List ℕ) (part : WeedlePart) (refusal : Refusal) (items : List Expected) → IsPartRefusalIn d text (part_of part) refusal
+    → items ≡ refusal.expected.items → (words : List Expected) (place : ℕ) → ArePut items refusal.place words place → IsExpectedOfPartIn d text part words place
+expected_of_part d text part refusal items is same words place (put, at) = (refusal, is, put ∙ same, at)

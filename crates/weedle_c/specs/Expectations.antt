@@ -3,11 +3,13 @@ use Rattle.std.specs.Prelude.{◌≡◌, ◌<◌, ◌+◌, ◌++◌, ℕ, List, 
 use Rattle.weedle_c.specs.Parts.{part_of}
 use Rattle.weedle_c.specs.declared.part.WeedlePart.{WeedlePart}
 use Rattle.weedle_c.specs.declared.words.WeedleExpected.{WeedleExpected}
-use Rattle.weedle_recovery.specs.Refusals.{IsPartRefusal}
-use Rattle.weedle_refusal.specs.Furthest.{IsFurthest}
+use Rattle.weedle_recovery.specs.Refusals.{IsPartRefusalIn}
+use Rattle.weedle_refusal.specs.Furthest.{IsFurthestIn}
 use Rattle.weedle_refusal.specs.Texts.{word_text}
 use Rattle.weedle_refusal.specs.declared.expected.Expected.{Expected}
 use Rattle.weedle_refusal.specs.declared.refusal.Refusal.{Refusal}
+use Rattle.weedle_syntax.specs.declared.dialect.Dialect.{Dialect}
+use Rattle.weedle_syntax.specs.declared.dialect.Dialect.TheVariants.{Weedle2}
 
 -- the words one after another, with a zero behind each
 abbrev pub words_bytes : List Expected → List ℕ
@@ -18,13 +20,20 @@ words_bytes (word ∷ words) = (word_text word ++ (0 ∷ [])) ++ words_bytes wor
 abbrev pub ArePut : List Expected → ℕ → List Expected → ℕ → Type 0
 ArePut expected at words place = (words ≡ expected) × (place ≡ at)
 
--- these are the words for what is unmet at the furthest place to which definitions are read from a place on
-abbrev pub IsExpectedFrom : List ℕ → ℕ → List Expected → ℕ → Type 0
-IsExpectedFrom text start words place = (furthest : ℕ) × IsFurthest (drop start text) furthest words × (place ≡ start + furthest)
+-- these are the words for what is unmet at the furthest place to which the dialect's rules read definitions from a place on
+abbrev pub IsExpectedFromIn : Dialect → List ℕ → ℕ → List Expected → ℕ → Type 0
+IsExpectedFromIn dialect text start words place = (furthest : ℕ) × IsFurthestIn dialect (drop start text) furthest words × (place ≡ start + furthest)
 
--- these are the words that are expected where an unread part is read
+-- these are the words that are expected where an unread part is read by the dialect's rules
+abbrev pub IsExpectedOfPartIn : Dialect → List ℕ → WeedlePart → List Expected → ℕ → Type 0
+IsExpectedOfPartIn dialect text part words place = (refusal : Refusal) × IsPartRefusalIn dialect text (part_of part) refusal × (words ≡ refusal.expected.items) × (place ≡ refusal.place)
+
+-- these by weedle2's rules
+abbrev pub IsExpectedFrom : List ℕ → ℕ → List Expected → ℕ → Type 0
+IsExpectedFrom text start words place = IsExpectedFromIn Weedle2 text start words place
+
 abbrev pub IsExpectedOfPart : List ℕ → WeedlePart → List Expected → ℕ → Type 0
-IsExpectedOfPart text part words place = (refusal : Refusal) × IsPartRefusal text (part_of part) refusal × (words ≡ refusal.expected.items) × (place ≡ refusal.place)
+IsExpectedOfPart text part words place = IsExpectedOfPartIn Weedle2 text part words place
 
 -- the answer has the number of these words, of their bytes, and their place
 pub record IsCountOf (words : List Expected) (answer : WeedleExpected) : Type 0 where

@@ -3,16 +3,18 @@ use Rattle.std.specs.Prelude.{◌≡◌, ◌⊎◌, ◌≤◌, ◌<◌, ◌+◌,
 use Rattle.weedle_c.specs.Parts.{part_of}
 use Rattle.weedle_c.specs.declared.part.WeedlePart.{WeedlePart}
 use Rattle.weedle_c.specs.declared.told.WeedleRefusal.{WeedleRefusal}
-use Rattle.weedle_recovery.specs.Refusals.{IsPartRefusal}
+use Rattle.weedle_recovery.specs.Refusals.{IsPartRefusalIn}
 use Rattle.weedle_refusal.specs.Excerpt.{message_text}
 use Rattle.weedle_refusal.specs.Position.{IsPositionOf, begins_character}
-use Rattle.weedle_refusal.specs.Refusal.{IsRefusal, IsRefusalBehind}
+use Rattle.weedle_refusal.specs.Refusal.{IsRefusal, IsRefusalBehindIn}
 use Rattle.weedle_refusal.specs.Said.{hint_line}
 use Rattle.weedle_refusal.specs.Texts.{refusal_text}
 use Rattle.weedle_refusal.specs.declared.hint.Hint.{Hint}
 use Rattle.weedle_refusal.specs.declared.hint.Hint.TheVariants as hint
 use Rattle.weedle_refusal.specs.declared.position.Position.{Position}
 use Rattle.weedle_refusal.specs.declared.refusal.Refusal.{Refusal}
+use Rattle.weedle_syntax.specs.declared.dialect.Dialect.{Dialect}
+use Rattle.weedle_syntax.specs.declared.dialect.Dialect.TheVariants.{Weedle2}
 
 -- the number of a hint's kind, 0 of none
 abbrev pub hint_kind : Option Hint → ℕ
@@ -108,17 +110,24 @@ pub record IsExplained (text old new : List ℕ) (answer : WeedleRefusal) : Type
   pub is_refusal : IsRefusal text refusal
   pub told : IsTold text refusal old new answer
 
--- the same of the text from a place on
-pub record IsExplainedBehind (text : List ℕ) (start : ℕ) (old new : List ℕ) (answer : WeedleRefusal) : Type 0 where
+-- the same of the text from a place on, by the dialect's rules
+pub record IsExplainedBehindIn (dialect : Dialect) (text : List ℕ) (start : ℕ) (old new : List ℕ) (answer : WeedleRefusal) : Type 0 where
   pub refusal : Refusal
-  pub is_refusal : IsRefusalBehind text start refusal
+  pub is_refusal : IsRefusalBehindIn dialect text start refusal
   pub told : IsTold text refusal old new answer
 
 -- the same of an unread part
-pub record IsPartExplained (text : List ℕ) (part : WeedlePart) (old new : List ℕ) (answer : WeedleRefusal) : Type 0 where
+pub record IsPartExplainedIn (dialect : Dialect) (text : List ℕ) (part : WeedlePart) (old new : List ℕ) (answer : WeedleRefusal) : Type 0 where
   pub refusal : Refusal
-  pub is_refusal : IsPartRefusal text (part_of part) refusal
+  pub is_refusal : IsPartRefusalIn dialect text (part_of part) refusal
   pub told : IsTold text refusal old new answer
+
+-- these by weedle2's rules
+abbrev pub IsExplainedBehind : List ℕ → ℕ → List ℕ → List ℕ → WeedleRefusal → Type 0
+IsExplainedBehind text start old new answer = IsExplainedBehindIn Weedle2 text start old new answer
+
+abbrev pub IsPartExplained : List ℕ → WeedlePart → List ℕ → List ℕ → WeedleRefusal → Type 0
+IsPartExplained text part old new answer = IsPartExplainedIn Weedle2 text part old new answer
 
 -- all numbers of the answer except for its place are 0
 pub record IsSilent (answer : WeedleRefusal) : Type 0 where

@@ -1,3 +1,4 @@
+pub mod Dialects
 pub mod Nodes
 pub mod Answers
 pub mod Formatted

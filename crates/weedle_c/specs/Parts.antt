@@ -7,10 +7,13 @@ use Rattle.weedle_c.specs.declared.part.WeedlePart.{WeedlePart}
 use Rattle.weedle_c.specs.declared.recovered.WeedleRecovered.{WeedleRecovered}
 use Rattle.weedle_grammar.specs.written.Bound.{rule_count}
 use Rattle.weedle_grammar.specs.written.Table.Definitions.{DEFINITIONS}
-use Rattle.weedle_recovery.specs.Recovery.{AreParts, IsDefinition, roots_of}
+use Rattle.weedle_recovery.specs.Recovery.{ArePartsIn, IsDefinitionIn, roots_of}
 use Rattle.weedle_recovery.specs.Refusals.{IsUnread}
 use Rattle.weedle_recovery.specs.declared.part.Part.{Part}
-use Rattle.weedle_syntax.specs.Syntax.{AreTrees, IsWhole}
+use Rattle.weedle_syntax.specs.Dialects.{IsWholeIn}
+use Rattle.weedle_syntax.specs.Syntax.{AreTrees}
+use Rattle.weedle_syntax.specs.declared.dialect.Dialect.{Dialect}
+use Rattle.weedle_syntax.specs.declared.dialect.Dialect.TheVariants.{Weedle2}
 use Rattle.weedle_syntax.specs.declared.node.Node.{Node}
 
 -- a part as C has it, of the same numbers
@@ -47,13 +50,13 @@ IsPart text part = IsUnread text (part_of part)
 abbrev pub is_unread : Part → Bool
 is_unread part = not part.is_read
 
--- the parts of a text, and the nodes of those that are read
-pub record IsRecovery (text : List ℕ) (parts : List Part) (nodes : List Node) : Type 0 where
+-- the parts of a text by the dialect's rules, and the nodes of those that are read
+pub record IsRecoveryIn (dialect : Dialect) (text : List ℕ) (parts : List Part) (nodes : List Node) : Type 0 where
   -- the parts join to the text; a rule is read in each, or fails where it begins
-  pub cover : AreParts text 0 (length text) parts
+  pub cover : ArePartsIn dialect text 0 (length text) parts
   pub trees : AreTrees text (roots_of parts) nodes
   -- of a text that is read whole they are its definitions
-  pub whole : IsWhole text → All IsDefinition parts
+  pub whole : IsWholeIn dialect text → All (IsDefinitionIn dialect) parts
 
 -- the answer has the numbers of these parts and nodes
 pub record Counts (parts : List Part) (nodes : List Node) (answer : WeedleRecovered) : Type 0 where
@@ -62,23 +65,36 @@ pub record Counts (parts : List Part) (nodes : List Node) (answer : WeedleRecove
   pub of_unread : answer.unread ≡ count_by is_unread parts
 
 -- parts and nodes are at the front of their rooms, and behind them is what was there
-pub record AreParted (text : List ℕ) (old new : List WeedlePart) (old_nodes new_nodes : List WeedleNode) (answer : WeedleRecovered) : Type 0 where
+pub record ArePartedIn (dialect : Dialect) (text : List ℕ) (old new : List WeedlePart) (old_nodes new_nodes : List WeedleNode) (answer : WeedleRecovered) : Type 0 where
   pub parts : List Part
   pub nodes : List Node
-  pub are : IsRecovery text parts nodes
+  pub are : IsRecoveryIn dialect text parts nodes
   pub counted : Counts parts nodes answer
   pub written : new ≡ map c_part parts ++ drop (length parts) old
   pub nodes_written : new_nodes ≡ map c_node nodes ++ drop (length nodes) old_nodes
 
 -- the parts or the nodes are more than there is room for
-pub record AreUncounted (text : List ℕ) (room node_room : ℕ) (answer : WeedleRecovered) : Type 0 where
+pub record AreUncountedIn (dialect : Dialect) (text : List ℕ) (room node_room : ℕ) (answer : WeedleRecovered) : Type 0 where
   pub parts : List Part
   pub nodes : List Node
-  pub are : IsRecovery text parts nodes
+  pub are : IsRecoveryIn dialect text parts nodes
   pub counted : Counts parts nodes answer
   pub more : (room < length parts) ⊎ (node_room < length nodes)
 
 -- 32 bits don't hold the length of the text, a place of a part, or a place or the depth of a node
+abbrev pub AreTooLongIn : Dialect → List ℕ → Type 0
+AreTooLongIn dialect text =
+    (2 ^ 32 ≤ length text) ⊎ ((parts : List Part) × (nodes : List Node) × IsRecoveryIn dialect text parts nodes × (¬ All PartFits parts ⊎ ¬ All IsNarrow nodes))
+
+-- these by weedle2's rules
+abbrev pub IsRecovery : List ℕ → List Part → List Node → Type 0
+IsRecovery text parts nodes = IsRecoveryIn Weedle2 text parts nodes
+
+abbrev pub AreParted : List ℕ → List WeedlePart → List WeedlePart → List WeedleNode → List WeedleNode → WeedleRecovered → Type 0
+AreParted text old new old_nodes new_nodes answer = ArePartedIn Weedle2 text old new old_nodes new_nodes answer
+
+abbrev pub AreUncounted : List ℕ → ℕ → ℕ → WeedleRecovered → Type 0
+AreUncounted text room node_room answer = AreUncountedIn Weedle2 text room node_room answer
+
 abbrev pub AreTooLong : List ℕ → Type 0
-AreTooLong text =
-    (2 ^ 32 ≤ length text) ⊎ ((parts : List Part) × (nodes : List Node) × IsRecovery text parts nodes × (¬ All PartFits parts ⊎ ¬ All IsNarrow nodes))
+AreTooLong text = AreTooLongIn Weedle2 text

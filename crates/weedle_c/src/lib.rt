@@ -7,10 +7,13 @@
 //! ```
 //!
 //! Each function calls one that does what it says, and states its clauses again. A C compiler sees
-//! a slice as a pointer and a length, and no `alloc`.
+//! a slice as a pointer and a length, and no `alloc`. Those here read by weedle2's rules, and those
+//! of [`by_dialect`] by the rules of a dialect.
 #![tactic(auto)]
 
 mod behind;
+pub mod by_dialect;
+mod dialect;
 mod format;
 mod hint;
 mod message;
@@ -64,11 +67,11 @@ ghost use Rattle.weedle_rules.specs.Outcomes.{FailsAt};
 ghost use Rattle.weedle_syntax.specs.Syntax.{IsRuleFront, IsSyntax, IsWhole};
 
 use crate::behind::explain_from;
-use crate::format::{WeedleFormatted, format};
+use crate::format::{WeedleFormatted, format_in};
 use crate::message::explain;
 use crate::node::WeedleNode;
 use crate::part::WeedlePart;
-use crate::reader::{WeedleAnswer, read};
+use crate::reader::{WeedleAnswer, read_in};
 use crate::recovered::{WeedleRecovered, divide};
 use crate::rule::read_rule;
 use crate::status::{NO_MEMORY, NO_PLACE, NO_ROOM, NO_RULE, NOT_UTF8, READ, REFUSED, TOO_LONG};
@@ -77,6 +80,7 @@ use crate::unread::{expect_in_part, explain_part};
 use crate::words::{WeedleExpected, expect};
 use std::alloc::Global;
 use weedle_grammar::RULES;
+use weedle_syntax::Dialect;
 
 /// The version: a byte each for the three numbers of 0.11.0.
 const VERSION: u32 = 0x000b00;
@@ -101,7 +105,7 @@ pub extern "C" fn weedle_syntax(
     ensures placed { (result ≡ NO_MEMORY) ⊎ (result ≡ TOO_LONG) → answer.new.rest ≡ 0 }
     ensures unwritten { result ≢ READ → nodes.new ≡ nodes.old }
 {
-    read(alloc, text, nodes, answer)
+    read_in(alloc, Dialect::Weedle2, text, nodes, answer)
 }
 
 /// Reads a rule at the front of a text, whatever follows it, and writes the nodes of its syntax
@@ -298,7 +302,7 @@ pub extern "C" fn weedle_format(
     ensures placed { result ≡ NO_MEMORY → answer.new.rest ≡ 0 }
     ensures unwritten { result ≢ READ → out.new ≡ out.old }
 {
-    format(alloc, text, out, answer)
+    format_in(alloc, Dialect::Weedle2, text, out, answer)
 }
 
 /// The version of the library.

@@ -23,3 +23,10 @@ pub const NO_RULE: u32 = 6;
 
 /// The text has no such place, or no such unread part.
 pub const NO_PLACE: u32 = 7;
+
+/// No dialect has the number.
+pub const NO_DIALECT: u32 = 8;
+
+/// Descent doesn't read what is asked for, since it nests too deep or takes too many steps, and the
+/// dialect's rules have no table.
+pub const TOO_DEEP: u32 = 9;

@@ -4,6 +4,7 @@ ghost use Rattle.std.specs.Prelude.{
   ◌≡◌,
   ◌≢◌,
   ◌≤◌,
+  ◌<◌,
   ◌⊎◌,
   ◌↔◌,
   ◌++◌,
@@ -18,19 +19,24 @@ ghost use Rattle.std.specs.Prelude.{
 };
 ghost use Rattle.std.specs.Str.{IsValidUpTo};
 ghost use Rattle.weedle_refusal.specs.Texts.{word_text};
+ghost use Rattle.weedle_c.specs.Dialects.{dialect_of as the_dialect_of};
 ghost use Rattle.weedle_c.specs.Expectations.{
   AreLonger,
   ArePut,
   AreWritten,
   IsExpectedFrom,
+  IsExpectedFromIn,
   IsNone,
   words_bytes,
 };
+ghost use Rattle.weedle_syntax.specs.declared.dialect.Dialect.TheVariants.{Weedle2};
 
-use crate::status::{NO_MEMORY, NO_PLACE, NO_ROOM, NOT_UTF8, READ, REFUSED};
+use crate::dialect::{TODAY, WEEDLE2, dialect_of};
+use crate::status::{NO_DIALECT, NO_MEMORY, NO_PLACE, NO_ROOM, NOT_UTF8, READ, REFUSED, TOO_DEEP};
 use std::alloc::{AllocError, Global};
 use std::fmt::Write;
-use weedle_refusal::{Expected, furthest_in};
+use weedle_refusal::{DialectError, Expected, furthest_by, furthest_in};
+use weedle_syntax::Dialect;
 
 /// What is said of the words beside the status.
 #[repr(C)]
@@ -110,6 +116,78 @@ fn expect_in(
     match furthest_in(alloc, &raw[start..]) {
         Ok((furthest, expected)) => put(alloc, &expected, start + furthest, words, answer),
         Err(_) => NO_MEMORY,
+    }
+}
+
+/// The same as [`expect`], by the rules of the dialect of this number.
+pub(crate) fn expect_by(
+    alloc: Global,
+    dialect: u32,
+    text: &[u8],
+    start: usize,
+    words: &mut [u8],
+    answer: &mut WeedleExpected,
+) -> u32
+    ensures known { (result ≤ TOO_DEEP) × (result ≢ REFUSED) }
+    ensures no_dialect { (result ≡ NO_DIALECT) ↔ (TODAY < dialect) }
+    ensures read { result ≡ READ
+        → AreWritten (IsExpectedFromIn (the_dialect_of dialect) text.now start)
+        words.old words.new answer.new }
+    ensures not_utf8 { dialect ≤ TODAY → ((result ≡ NOT_UTF8) ↔ ¬ IsUtf8 text.now) }
+    ensures byte { result ≡ NOT_UTF8 → IsValidUpTo text.now answer.new.place }
+    ensures no_room { result ≡ NO_ROOM
+        → AreLonger (IsExpectedFromIn (the_dialect_of dialect) text.now start)
+        (length words.old) answer.new }
+    ensures no_place { dialect ≤ TODAY → IsUtf8 text.now
+        → ((result ≡ NO_PLACE) ↔ ¬ IsCharBoundary text.now start) }
+    ensures too_deep { result ≡ TOO_DEEP → dialect ≢ WEEDLE2 }
+    ensures none { result ≢ READ → result ≢ NO_ROOM → IsNone answer.new }
+    ensures placed { result ≢ READ → result ≢ NO_ROOM → result ≢ NOT_UTF8
+        → answer.new.place ≡ 0 }
+    ensures unwritten { result ≢ READ → words.new ≡ words.old }
+{
+    *answer = NO_WORDS;
+    if dialect > TODAY {
+        return NO_DIALECT;
+    }
+    match str::from_utf8(text) {
+        Ok(raw) => expect_text_by(alloc, dialect_of(dialect), raw, start, words, answer),
+        Err(error) => {
+            answer.place = error.valid_up_to();
+            NOT_UTF8
+        }
+    }
+}
+
+/// The same of a text that is UTF-8.
+fn expect_text_by(
+    alloc: Global,
+    dialect: Dialect,
+    raw: &str,
+    start: usize,
+    words: &mut [u8],
+    answer: &mut WeedleExpected,
+) -> u32
+    requires { answer.old ≡ NO_WORDS }
+    ensures known { (result ≤ TOO_DEEP) × (result ≢ NOT_UTF8)
+        × (result ≢ REFUSED) × (result ≢ NO_DIALECT) }
+    ensures read { result ≡ READ
+        → AreWritten (IsExpectedFromIn dialect raw.now start) words.old words.new answer.new }
+    ensures no_room { result ≡ NO_ROOM
+        → AreLonger (IsExpectedFromIn dialect raw.now start) (length words.old) answer.new }
+    ensures no_place { (result ≡ NO_PLACE) ↔ ¬ IsCharBoundary raw.now start }
+    ensures too_deep { result ≡ TOO_DEEP → dialect ≢ Weedle2 }
+    ensures none { result ≢ READ → result ≢ NO_ROOM → IsNone answer.new }
+    ensures placed { result ≢ READ → result ≢ NO_ROOM → answer.new.place ≡ 0 }
+    ensures unwritten { result ≢ READ → words.new ≡ words.old }
+{
+    if !raw.is_char_boundary(start) {
+        return NO_PLACE;
+    }
+    match furthest_by(alloc, &raw[start..], dialect) {
+        Ok((passed, expected)) => put(alloc, &expected, start + passed, words, answer),
+        Err(DialectError::Memory) => NO_MEMORY,
+        Err(DialectError::TooDeep) => TOO_DEEP,
     }
 }
 

@@ -8,7 +8,7 @@ returns-then-rest-raw-clause-refused c =
     let rest = c.end-rest.ensures in
     let before = c.if-rest-raw.true in
     let inside : rest_of c.args.found.now < length c.args.raw.now = omega arith in
-    λ _. unread c.requires.front rest inside
+    λ _. unread c.args.dialect c.requires.front rest inside
 
 pub returns-then-count-nodes-clause-no_room : goal.returns-then-count-nodes-clause-no_room
 returns-then-count-nodes-clause-no_room c =
@@ -19,7 +19,7 @@ returns-then-count-nodes-clause-no_room c =
     let more = c.if-count-nodes.true in
     λ _. record {
       tree = c.args.found.now;
-      has = has_tree c.requires.front done rest many;
+      has = has_tree c.args.dialect c.requires.front done rest many;
       more = omega (arith, more, many);
     }
 
@@ -31,6 +31,6 @@ returns-clause-read c =
     let many : c.len-count.result ≡ length c.args.found.now = c.len-count.ensures in
     λ _. record {
       tree = c.args.found.now;
-      has = has_tree c.requires.front done rest many;
+      has = has_tree c.args.dialect c.requires.front done rest many;
       written = c.write_to.ensures;
     }

@@ -1,0 +1,9 @@
+use Rattle.std.proofs.Common.{List, ℕ, subst}
+use Rattle.weedle_c.specs.Explained.{IsExplainedBehindIn}
+use Rattle.weedle_syntax.specs.declared.dialect.Dialect.{Dialect}
+use Rattle.weedle_c.proofs.behind.explain_by.Goals as goal
+
+pub returns-in-Ok-clause-refused : goal.returns-in-Ok-clause-refused
+returns-in-Ok-clause-refused c =
+    let E : Dialect → List ℕ → Type 0 = λ d text. IsExplainedBehindIn d text c.args.start c.args.message.now c.explain_text_by.new.message c.explain_text_by.new.answer in
+    λ is. subst (λ d. E d c.args.text.now) c.dialect_of.ensures.is (subst (E c.dialect_of.result) c.in-Ok.ensures.cases.0 (c.explain_text_by.ensures.refused is))
