@@ -10,6 +10,8 @@ mod comments;
 #[cfg(test)]
 mod diagnoses;
 #[cfg(test)]
+mod dialects;
+#[cfg(test)]
 mod faults;
 #[cfg(test)]
 mod generic_parts;

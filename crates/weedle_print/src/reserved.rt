@@ -5,7 +5,7 @@ ghost use Rattle.weedle_grammar.specs.Rows.{take_one};
 ghost use Rattle.weedle_grammar.specs.declared.class.Class.TheVariants.{Letter};
 ghost use Rattle.weedle_print.specs.Reserved.{IsRead, IsWord};
 
-use weedle_grammar::{Class, RULES, Row, holds, row_of, rule_of};
+use weedle_grammar::{Class, Row, TABLE_RULES, holds, row_of, rule_of};
 
 /// Whether a text begins with a letter.
 fn begins_with_letter(text: &str) -> bool
@@ -17,11 +17,11 @@ fn begins_with_letter(text: &str) -> bool
     }
 }
 
-/// Whether a rule of the grammar reads just this text.
+/// Whether a rule of weedle2's reads just this text.
 fn is_read(text: &str) -> bool
     ensures { IsTrue result ↔ IsRead text.now }
 {
-    'rules: for number in 0..RULES as u16 {
+    'rules: for number in 0..TABLE_RULES as u16 {
         if let Row::Bytes(bytes) = row_of(rule_of(number)) {
             if bytes == text.as_bytes() {
                 return true;

@@ -1,12 +1,13 @@
-//! What a text is read as over a table, told with no memory.
+//! What a text is read as over a table or a memo, told with no memory.
 
 ghost use Rattle.std.specs.Prelude.{◌≡◌};
 
 use std::alloc::{AllocError, Global};
 use std::process::Abort;
-use weedle::{Counted, Err, Error, ErrorKind, parse_counted};
-use weedle_build::{Built, build_definitions};
-use weedle_rules::{Ends, READS, RULES};
+use weedle::{Counted, Err, Error, ErrorKind, parse_bounded, parse_counted};
+use weedle_build::{Built, build_by_memo, build_definitions};
+use weedle_memo::Memo;
+use weedle_rules::{Ends, READS, TABLE_RULES};
 
 /// What a reader answers of a text.
 #[derive(Clone, Copy, Debug, PartialEq, Eq)]
@@ -52,12 +53,22 @@ fn outcome_of<'a, T: Drop>(answer: Result<Vec<T>, Err<Error<&'a str>>>) -> Outco
 
 /// What `parse_counted` answers, and what it counts.
 pub fn counted(alloc: Global, text: &str) -> (Outcome<'_>, Counts) {
+    told(parse_counted(alloc, text))
+}
+
+/// What `parse_bounded` answers, and what it counts.
+pub fn bounded(alloc: Global, text: &str) -> (Outcome<'_>, Counts) {
+    told(parse_bounded(alloc, text))
+}
+
+/// The outcome of an answer with counts, and these.
+fn told(counted: Counted<'_>) -> (Outcome<'_>, Counts) {
     let Counted {
         answer,
         workings,
         reads,
         visits,
-    } = parse_counted(alloc, text);
+    } = counted;
     let counts = Counts {
         workings,
         reads,
@@ -79,20 +90,38 @@ pub fn built<'a>(
     Ok((length(list), rest, visits))
 }
 
-/// How many workings-out there are for a text.
-fn all_workings(text: &str) -> u128 {
-    (RULES as u128).saturating_mul(text.len() as u128 + 1)
+/// The same along a memo.
+pub fn built_by_memo<'a>(
+    alloc: Global,
+    memo: &Memo<'_>,
+    text: &'a str,
+) -> Result<(usize, &'a str, u128), AllocError>
+    requires memo { memo.now.text ≡ text.now }
+{
+    let Built { list, rest, visits } = build_by_memo(alloc, memo, text)?;
+    Ok((length(list), rest, visits))
 }
 
-/// Asserts the bounds of an answer that didn't run out of memory: each rule is worked out at each
-/// place, each with at most `READS` looks, and the nodes of the tree are at most 10,000 for each
-/// place.
+/// How many workings-out there are for a text.
+fn all_workings(text: &str) -> u128 {
+    (TABLE_RULES as u128).saturating_mul(text.len() as u128 + 1)
+}
+
+/// Asserts the bounds of an answer over a table that didn't run out of memory: each rule is worked
+/// out at each place.
 pub fn assert_bounds(rt: &impl Abort, text: &str, counts: Counts) {
+    assert_eq!(rt; counts.workings, all_workings(text), "of {text:?}");
+    assert_within(rt, text, counts);
+}
+
+/// Asserts the bounds of any answer: a rule is worked out at a place at most once, with at most
+/// `READS` looks, and the nodes of the tree are at most 10,000 for each place.
+pub fn assert_within(rt: &impl Abort, text: &str, counts: Counts) {
     let most = (READS as u128).saturating_mul(counts.workings);
     let places = text.len() as u128 + 1;
-    assert_eq!(rt; counts.workings, all_workings(text), "of {text:?}");
     assert!(rt;
-        counts.reads >= counts.workings
+        counts.workings <= all_workings(text)
+            && counts.reads >= counts.workings
             && counts.reads <= most
             && counts.visits <= places.saturating_mul(10_000),
         "of {text:?}"

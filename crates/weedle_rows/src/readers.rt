@@ -1,16 +1,19 @@
-//! Whole texts over narrow and over wide tables: each is read or left within the bounds of the
-//! table and of the tree. That the readers' lists are equal is proved; what is in them is tested
-//! over the programs, which descend where that suits a text.
+//! Whole texts over narrow and over wide tables, and over a memo: each is read or left within the
+//! bounds of table, memo and tree. That the readers' lists are equal is proved; what is in them is
+//! tested over the programs, which descend where that suits a text.
 
-use super::outcomes::{Outcome, assert_bounds, built, counted};
+use super::outcomes::{
+    Outcome, assert_bounds, assert_within, bounded, built, built_by_memo, counted,
+};
 use std::alloc::{AllocError, Global};
 use std::process::Abort;
 use std::test::Fail;
-use weedle_rules::{Ends, RULES};
+use weedle_memo::{Memo, Tables};
+use weedle_rules::{Ends, TABLE_RULES};
 use weedle_testing::examples::{TEXTS, WINDOW};
 use weedle_testing::{nested_attributes, repeated};
 
-/// Asserts that the passes over both tables give this, with so many visits.
+/// Asserts that the passes over both tables and the memo give this, with so many visits.
 fn assert_built(
     rt: &impl Abort,
     alloc: Global,
@@ -27,7 +30,13 @@ fn assert_built(
         "of {text:?}"
     );
     let (first, second) = (built(alloc, &narrow, text)?, built(alloc, &wide, text)?);
-    assert!(rt; first == second && first.2 == visits, "of {text:?}");
+    let tables = Tables::new();
+    let memo = Memo::new(alloc, text, &tables)?;
+    let third = built_by_memo(alloc, &memo, text)?;
+    assert!(rt;
+        first == second && first == third && first.2 == visits,
+        "of {text:?}"
+    );
     match expected {
         Outcome::Left(left) => assert_eq!(rt; first.1, left, "of {text:?}"),
         _ => assert_eq!(rt;
@@ -36,6 +45,31 @@ fn assert_built(
             "of {text:?}"
         ),
     }
+    Ok(())
+}
+
+/// Asserts that `parse_bounded` gives this within its bounds, with so many visits, and has the other
+/// counts from the memo of the text.
+fn assert_bounded(
+    rt: &impl Abort,
+    alloc: Global,
+    text: &str,
+    expected: Outcome<'_>,
+    visits: u128,
+) -> Result<(), AllocError> {
+    let (answer, counts) = bounded(alloc, text);
+    assert_within(rt, text, counts);
+    assert!(rt;
+        answer == expected && counts.visits == visits,
+        "of {text:?}"
+    );
+    let tables = Tables::new();
+    let memo = Memo::new(alloc, text, &tables)?;
+    assert_eq!(rt;
+        (counts.workings, counts.reads),
+        (memo.workings() as u128, memo.reads()),
+        "of {text:?}"
+    );
     Ok(())
 }
 
@@ -49,6 +83,7 @@ fn assert_read(
     let (answer, counts) = counted(alloc, text);
     assert_bounds(rt, text, counts);
     assert_eq!(rt; answer, expected, "of {text:?}");
+    assert_bounded(rt, alloc, text, expected, counts.visits)?;
     assert_built(rt, alloc, text, expected, counts.visits)?;
     Ok(counts.visits)
 }
@@ -78,6 +113,19 @@ fn each_node_of_the_tree_is_visited_once(rt: HostRuntime) -> Result<(), Fail> {
     Ok(())
 }
 
+/// By hand from the rows: no definition begins with `)`, so the rule of definitions alone is worked
+/// out, by one look, at what it repeats. Its tree is the empty list.
+#[test]
+fn a_memo_counts_what_the_reading_tries(rt: HostRuntime) {
+    let (answer, counts) = bounded(rt.alloc(), ")");
+    assert_eq!(rt; answer, Outcome::Left(")"));
+    assert_eq!(rt; (counts.workings, counts.reads), (1, 1));
+    assert_eq!(rt; counts.visits, 1);
+    let (answer, counts) = bounded(rt.alloc(), "enum E {\"a\"};");
+    assert_eq!(rt; answer, Outcome::Read(1));
+    assert!(rt; counts.workings > 1 && counts.workings < 100);
+}
+
 /// The counts are by hand: how many rules there are at each place. A place takes milliseconds where
 /// accesses are checked, so texts of 300 kB of these kinds are for the built programs:
 /// `tests/memory.toml` has them.
@@ -89,7 +137,7 @@ fn long_texts_are_read_in_bounded_steps(rt: HostRuntime) -> Result<(), Fail> {
     assert_eq!(rt; text.len(), 495);
     assert_read(&rt, alloc, &text, read)?;
     let (_, counts) = counted(alloc, &text);
-    assert_eq!(rt; counts.workings, RULES as u128 * 496);
+    assert_eq!(rt; counts.workings, TABLE_RULES as u128 * 496);
     assert!(rt; counts.workings <= 198_400 && counts.visits <= 4_960_000);
     let text = nested_attributes(alloc, 199)?;
     assert_eq!(rt; text.len(), 2_415);
@@ -99,7 +147,7 @@ fn long_texts_are_read_in_bounded_steps(rt: HostRuntime) -> Result<(), Fail> {
     let text = repeated(alloc, "", "/* ", 100, "")?;
     assert_read(&rt, alloc, &text, Outcome::Left(&text))?;
     let (_, counts) = counted(alloc, &text);
-    assert_eq!(rt; counts.workings, RULES as u128 * 301);
+    assert_eq!(rt; counts.workings, TABLE_RULES as u128 * 301);
     assert!(rt; counts.workings <= 120_400);
     let text = repeated(alloc, "enum E {", "\"a\",", 300, "};")?;
     assert_eq!(rt; text.len(), 1_210);

@@ -1,6 +1,7 @@
-//! Each request for memory refused in turn: whole texts, over a table and the pass along it.
+//! Each request for memory refused in turn: whole texts, over a table or a memo and the pass along
+//! it.
 
-use super::outcomes::{Counts, Outcome, assert_bounds, counted};
+use super::outcomes::{Counts, Outcome, assert_bounds, assert_within, bounded, counted};
 use std::alloc::Global;
 use std::process::Abort;
 use std::test::Fail;
@@ -54,7 +55,7 @@ fn assert_counts(rt: &impl Abort, text: &str, counts: Counts, has_none: bool) {
     }
 }
 
-/// Asserts that a text is read so, twice, or that memory runs out.
+/// Asserts that a text is read so over a table, twice, and over a memo, or that memory runs out.
 fn assert_read(
     rt: &impl Abort,
     alloc: Global,
@@ -67,6 +68,10 @@ fn assert_read(
         let has_none = is_wanted(rt, wanted, text, answer, expected);
         assert_counts(rt, text, counts, has_none);
     }
+    let (answer, counts) = bounded(alloc, text);
+    let has_none = is_wanted(rt, wanted, text, answer, expected);
+    assert_within(rt, text, counts);
+    assert!(rt; !has_none || counts.visits == 0, "of {text:?}");
 }
 
 #[test]

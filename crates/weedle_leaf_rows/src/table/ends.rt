@@ -3,7 +3,7 @@
 use std::alloc::{AllocError, Global};
 use std::process::Abort;
 use std::test::Fail;
-use weedle_rules::{Cell, Ends, Narrow, READS, RULES, Rule, Wide};
+use weedle_rules::{Cell, Ends, Narrow, READS, Rule, TABLE_RULES, Wide};
 use weedle_testing::examples::TEXTS;
 use weedle_testing::{nested_attributes, repeated};
 
@@ -12,7 +12,7 @@ fn definitions_end_where_the_grammar_says(rt: HostRuntime) -> Result<(), Fail> {
     let alloc = rt.alloc();
     let ends = Ends::new(alloc, "")?;
     assert_eq!(rt; ends.end(Rule::DEFINITIONS, 0), Some(0));
-    assert_eq!(rt; ends.workings(), RULES as u128);
+    assert_eq!(rt; ends.workings(), TABLE_RULES as u128);
     assert_eq!(rt; Ends::new(alloc, "  ")?.end(Rule::DEFINITIONS, 0), Some(0));
     let text = "interface A {}; // end";
     let ends = Ends::new(alloc, text)?;
@@ -30,7 +30,7 @@ fn what_is_asked_changes_nothing(rt: HostRuntime) -> Result<(), Fail> {
     let ends = Ends::new(rt.alloc(), &text)?;
     let workings = ends.workings();
     let reads = ends.reads();
-    assert_eq!(rt; workings, RULES as u128 * 496);
+    assert_eq!(rt; workings, TABLE_RULES as u128 * 496);
     assert_eq!(rt; ends.end(Rule::DEFINITIONS, 0), Some(495));
     assert_eq!(rt; ends.end(Rule::DEFINITIONS, 0), Some(495));
     assert_eq!(rt; ends.workings(), workings);
@@ -43,7 +43,7 @@ fn unclosed_comments_are_read_in_bounded_steps(rt: HostRuntime) -> Result<(), Fa
     let text = repeated(rt.alloc(), "", "/* ", 1_000, "")?;
     let ends = Ends::new(rt.alloc(), &text)?;
     assert_eq!(rt; ends.end(Rule::DEFINITIONS, 0), Some(0));
-    let workings = RULES as u128 * 3_001;
+    let workings = TABLE_RULES as u128 * 3_001;
     assert_eq!(rt; ends.workings(), workings);
     assert!(rt; ends.reads() >= workings);
     assert!(rt; ends.reads() <= READS as u128 * workings);
@@ -143,7 +143,7 @@ fn assert_tables_agree(rt: &impl Abort, alloc: Global, text: &str) -> Result<(),
     assert_eq!(rt; narrow.workings(), wide.workings());
     assert_eq!(rt; narrow.reads(), wide.reads());
     for place in 0..text.len() + 1 {
-        for number in 0..RULES as u16 {
+        for number in 0..TABLE_RULES as u16 {
             if let Some(rule) = Rule::new(number) {
                 assert_eq!(rt;
                     narrow.end(rule, place),

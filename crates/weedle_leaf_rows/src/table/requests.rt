@@ -4,7 +4,7 @@ use std::alloc::Global;
 use std::process::Abort;
 use std::test::Fail;
 use weedle_grammar::{Class, Row, holds, row_of};
-use weedle_rules::{Cell, Ends, Narrow, RULES, Rule, Wide};
+use weedle_rules::{Cell, Ends, Narrow, Rule, TABLE_RULES, Wide};
 use weedle_testing::Wanted;
 
 /// Asserts what a table says of a text that is read up to its end.
@@ -13,7 +13,7 @@ fn assert_looks(rt: &impl Abort, ends: &Ends<'_>, text: &str, is_narrow: bool) {
     assert_eq!(rt; ends.end(Rule::DEFINITIONS, 0), Some(text.len()));
     assert_eq!(rt;
         ends.workings(),
-        (RULES as u128).saturating_mul(text.len() as u128 + 1)
+        (TABLE_RULES as u128).saturating_mul(text.len() as u128 + 1)
     );
     assert!(rt; ends.reads() >= ends.workings());
     assert_eq!(rt; ends.is_narrow(), is_narrow);
