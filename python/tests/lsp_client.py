@@ -96,12 +96,13 @@ class Client:
         assert "result" not in found, found["result"]
         return found["error"]["code"], found["error"]["message"]
 
-    def initialize(self, *folders, encodings=None, **capabilities):
+    def initialize(self, *folders, encodings=None, options=None, **capabilities):
         """Begins: what the server can."""
         if encodings:
             capabilities["general"] = {"positionEncodings": encodings}
         shown = [{"uri": it.as_uri(), "name": it.name} for it in folders] or None
-        found = self.ask("initialize", processId=None, capabilities=capabilities, workspaceFolders=shown)
+        more = {} if options is None else {"initializationOptions": options}
+        found = self.ask("initialize", processId=None, capabilities=capabilities, workspaceFolders=shown, **more)
         self.note("initialized")
         return found
 

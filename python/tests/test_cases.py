@@ -19,6 +19,7 @@ from measure.compare_with_weedle2 import DEPTH, files_of
 from run.cases import title_of
 from shared.case_files import cases_of, folders
 from write.make_cases import sum_of, without_text
+from test_today import SAID
 from test_values import all_values
 from test_weedle2 import in_weedle2s_words
 
@@ -107,8 +108,10 @@ class Cases(unittest.TestCase):
         self.assertEqual((refused.start, refused.place), (wanted["rest"], wanted["place"]), text)
         self.assertEqual(f"{refused.line}:{refused.column}", wanted["at"], text)
         hint = wanted.get("hint", "")
+        # That today's rules read it is said behind the hint: test_today.py tries where.
+        today = f"{SAID}\n" if refused.is_read_today else ""
         self.assertEqual(
-            f"{refused}\n", f"{wanted['at']}: {wanted['says']}\n{wanted['shows']}{hint}", text
+            f"{refused}\n", f"{wanted['at']}: {wanted['says']}\n{wanted['shows']}{hint}{today}", text
         )
         self.assertEqual(refused.hint, hint.rstrip("\n") or None, text)
         self.assertIn(refused.expected, wanted["says"], text)

@@ -78,7 +78,8 @@ class Requests(unittest.TestCase):
         self.assertEqual((self.done.returncode, self.done.stderr), (0, ""))
         for found, said, no_room in zip(json.loads(self.done.stdout)[2:], SAID, NO_ROOM):
             self.assertTrue(found[-1].startswith(said), found[-1])
-            self.assertEqual(set(found[:-1]), {"MemoryError", no_room})
+            # Where memory is refused for reading it by today's rules, nothing is said of these.
+            self.assertEqual(set(found[:-1]) - {found[-1]}, {"MemoryError", no_room})
 
 
 if __name__ == "__main__":

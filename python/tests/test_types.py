@@ -19,9 +19,11 @@ from pathlib import Path
 from support import HOME, TOP
 import weedle
 from test_examples import CODE
-from weedle import Definition, argument, attribute, common, definitions, dictionary, interface, literal, mixin, namespace, types
+from weedle import (
+    Definition, argument, attribute, common, definitions, dictionary, interface, literal, mixin, namespace, today, types,
+)
 
-MODULES = (argument, attribute, common, definitions, dictionary, interface, literal, mixin, namespace, types)
+MODULES = (argument, attribute, common, definitions, dictionary, interface, literal, mixin, namespace, today, types)
 # The variants of `Definition` that the program of MATCH has no case for.
 LEFT = "Definition_Enum"
 MATCH = """\
@@ -52,7 +54,36 @@ for it in parse("A includes B; interface C {}; enum E { \\"a\\" };"):
     print(name(it))
 """
 ENUM = "        case Definition.Enum():\n            return it.value.identifier.value"
+# A program over both trees, in which a checker knows which is which.
+DIALECTS = """\
+import sys
+from typing import List, Union
+import weedle
+from weedle import Definitions, Dialect, today
+from weedle.common import Identifier
+
+old: Definitions = weedle.parse("A includes B;")
+new: today.Definitions = weedle.parse("[Exposed=*] interface A { const bigint B = 1; };", dialect="today")
+dialect: Dialect = "today" if len(sys.argv) > 1 else "weedle2"
+either: Union[Definitions, today.Definitions] = weedle.parse("", recover=True, dialect=dialect)
+for it in new:
+    if isinstance(it, today.Definition.Interface):
+        names: List[Identifier] = [it.value.identifier]
+        for member in it.value.members.body:
+            if isinstance(member, today.InterfaceMember.Const):
+                names.append(member.value.identifier)
+        docs: List[str] = [doc.value for doc in it.value.docstrings]
+        print([name.value for name in names], docs, [len(some.body) for some in it.value.attributes])
+built = today.IncludesStatementDefinition(lhs_identifier=Identifier("A"), rhs_identifier=Identifier("B"))
+print(built.to_webidl(), weedle.format("", dialect=dialect), weedle.syntax("", dialect="today").children)
+index = weedle.Index(dialect="today")
+read: today.Definitions = index.add(new)
+print(index["A"].members()[0].name, weedle.Edits("", dialect=dialect).apply(), weedle.recover("", dialect="today").errors)
+"""
 WRONG = {
+    "weedle.parse('', dialect='tomorrow')": 'No overload variant of "parse"',
+    "weedle.syntax('', dialect='tomorrow')": 'incompatible type "Literal[\'tomorrow\']"',
+    "weedle.parse('', dialect='today')[0].value.docstring": 'has no attribute "docstring"',
     "for it in weedle.parse('').find(weedle.IncludesStatementDefinition): it.lhs": '"IncludesStatementDefinition" has no attribute "lhs"',
     "weedle.common.Identifier(5)": 'incompatible type "int"; expected "str"',
     "next(weedle.parse('').find(weedle.common.Identifier)).value + 1": 'Unsupported operand types for + ("str" and "int")',
@@ -101,6 +132,10 @@ class Checked(unittest.TestCase):
         said = checked(*files, version="3.10")
         self.assertTrue(said.startswith("Success: no issues found"), said)
 
+    def test_both_trees(self):
+        said = checked(self.written(DIALECTS))
+        self.assertTrue(said.startswith("Success: no issues found"), said)
+
     def test_a_match_over_all_variants(self):
         file = self.written(MATCH % ENUM)
         said = checked(file, version="3.10")
@@ -137,6 +172,13 @@ class Known(unittest.TestCase):
         variants = typing.get_args(Definition.Variants)
         self.assertEqual(len(variants), 14)
         self.assertIn(Definition.Interface, variants)
+
+    def test_both_trees(self):
+        out = io.StringIO()
+        with redirect_stdout(out):
+            exec(compile(DIALECTS, "program", "exec"), {})
+        self.assertEqual(out.getvalue().splitlines()[0], "['A', 'B'] [] [1]")
+        self.assertEqual(len(typing.get_args(today.Definition.Variants)), 14)
 
     def test_help_has_the_doc_of_each_field(self):
         for module in MODULES:

@@ -225,6 +225,10 @@ def spelled(terminal):
     return next(row[1] for row in rows if row[0] == "Bytes")
 
 
+# What today's rules read whole of the texts with a hint: a docstring in front of a typedef, and a comment alone.
+TODAY = frozenset(["/// a\ntypedef long T;", "// none"])
+
+
 class Faults(unittest.TestCase):
     def test_a_refused_text(self):
         with self.assertRaises(weedle.Refused) as raised:
@@ -249,7 +253,8 @@ class Faults(unittest.TestCase):
                 weedle.parse(text)
             refused = raised.exception
             self.assertEqual(refused.hint, hint, text)
-            self.assertEqual(refused.message.split("\n")[3:], [hint] if hint else [], text)
+            said = [hint] * bool(hint) + ['today\'s WebIDL reads it: dialect="today"'] * (text in TODAY)
+            self.assertEqual(refused.message.split("\n")[3:], said, text)
 
     def test_a_hint_where_memory_ran_out(self):
         refused = weedle.Refused(weedle._text.Text("interface A { atribute long x; };"), 0)

@@ -1,7 +1,7 @@
 """Reads files of WebIDL, and writes what is in them.
 
-    weedle [--json | --syntax | --format [--check | --write] [--partial]] [--errors N] [FILE..]
-    weedle lint [--json] [--ignore CODE].. [--known FILE].. FILE..
+    weedle [--json | --syntax | --format [--check | --write] [--partial]] [--errors N] [--today] [FILE..]
+    weedle lint [--json] [--ignore CODE].. [--known FILE].. [--today] FILE..
     weedle lsp
 
 `python3 -m weedle` is the same. The second checks files by rules that the grammar doesn't have:
@@ -19,9 +19,11 @@ others are looked for. With
 replaces each of them at once; both say on standard output what is refused, of each file the first
 error, and how many there were, as weedle_format does. With `--partial` beside `--format` the
 definitions that are read of a file that is refused are formatted too, and all else of it stays byte
-for byte. The status is 0 where all is read, 1 where something is refused or would change, 2 where a
-file can't be read or isn't UTF-8, 3 where memory ran out, 4 where a file or the output can't be
-written, and 5 where the arguments are others; of several the greatest.
+for byte. With `--today` files are read by the rules of today's WebIDL. Without it what is said of a
+file that those alone read whole ends with a line that says so. The status is 0 where all is read, 1
+where something is refused or would change, 2 where a file can't be read or isn't UTF-8, 3 where
+memory ran out, 4 where a file or the output can't be written, and 5 where the arguments are others; of
+several the greatest.
 """
 
 from __future__ import annotations
@@ -38,11 +40,14 @@ from enum import IntEnum
 from functools import partial
 from typing import BinaryIO, Callable, Dict, NoReturn, Optional, Sequence, Tuple
 
-from weedle import Refused, __version__, format, lint, parse, recover, syntax
+from weedle import Dialect, Refused, __version__, format, lint, parse, recover, syntax
+from weedle.errors import READ_TODAY
 
 # What writes the text of a file, whose name it is told where there are several, and where it is laid
-# out. It gives whether the layout would change.
-Write = Callable[[bytes, BinaryIO, Optional[str]], Optional[bool]]
+# out, by a dialect. It gives whether the layout would change.
+Write = Callable[[bytes, BinaryIO, Optional[str], Dialect], Optional[bool]]
+# The option that says that today's rules are meant, as messages name it too.
+IN_PROGRAMS = "--today"
 # How many errors of a file are said where no number is given.
 MOST_ERRORS = 20
 # How a message calls standard input, and what names it.
@@ -81,21 +86,21 @@ class Parser(argparse.ArgumentParser):
         self.exit(Status.MISUSED, f"{self.prog}: {message}\n")
 
 
-def write_json(data: bytes, out: BinaryIO, name: Optional[str]) -> None:
+def write_json(data: bytes, out: BinaryIO, name: Optional[str], dialect: Dialect) -> None:
     """Writes each definition on a line, with the file's name where there are several.
 
     A definition that is written is let go of.
     """
     front, back = (f'{{"file":{json.dumps(name)},"definition":', "}") if name else ("", "")
-    definitions = parse(data)
+    definitions = parse(data, dialect=dialect)
     definitions.reverse()
     while definitions:
         out.write(f"{front}{definitions.pop().to_json()}{back}\n".encode())
 
 
-def write_syntax(data: bytes, out: BinaryIO, name: Optional[str]) -> None:
+def write_syntax(data: bytes, out: BinaryIO, name: Optional[str], dialect: Dialect) -> None:
     """Writes each node on a line: its name, its bytes, and of one with none below it its text."""
-    for node in syntax(data).walk():
+    for node in syntax(data, dialect=dialect).walk():
         start, end = node.span
         said = f"{'  ' * node.depth}{node.name} {start}..{end}"
         if not node.children:
@@ -103,34 +108,29 @@ def write_syntax(data: bytes, out: BinaryIO, name: Optional[str]) -> None:
         out.write(f"{said}\n".encode())
 
 
-def format_partly(data: bytes) -> bytes:
-    """The text of which the definitions that are read are formatted."""
-    return format(data, partial=True)
-
-
 def write_format(
-    data: bytes, out: BinaryIO, name: Optional[str], lay: Callable[[bytes], bytes] = format
+    data: bytes, out: BinaryIO, name: Optional[str], dialect: Dialect, is_partial: bool = False
 ) -> bool:
-    """Writes the formatted text."""
-    out.write(lay(data))
+    """Writes the formatted text; with `is_partial` that of which the definitions that are read are so."""
+    out.write(format(data, partial=is_partial, dialect=dialect))
     return False
 
 
 def write_name(
-    data: bytes, out: BinaryIO, name: Optional[str], lay: Callable[[bytes], bytes] = format
+    data: bytes, out: BinaryIO, name: Optional[str], dialect: Dialect, is_partial: bool = False
 ) -> bool:
     """Writes the file's name where its layout would change."""
-    changes = lay(data) != data
+    changes = format(data, partial=is_partial, dialect=dialect) != data
     if changes:
         out.write(os.fsencode(f"{name}\n"))
     return changes
 
 
 def write_file(
-    data: bytes, out: BinaryIO, name: Optional[str], lay: Callable[[bytes], bytes] = format
+    data: bytes, out: BinaryIO, name: Optional[str], dialect: Dialect, is_partial: bool = False
 ) -> bool:
     """Replaces the file by what was formatted, and writes its name, where that changes it."""
-    laid_out = lay(data)
+    laid_out = format(data, partial=is_partial, dialect=dialect)
     changes = laid_out != data
     if changes:
         replace(os.path.realpath(name or ""), laid_out)
@@ -154,9 +154,9 @@ def replace(path: str, data: bytes) -> None:
         raise Unwritten(f"{fault.strerror} (os error {fault.errno})") from fault
 
 
-def write_nothing(data: bytes, out: BinaryIO, name: Optional[str]) -> None:
+def write_nothing(data: bytes, out: BinaryIO, name: Optional[str], dialect: Dialect) -> None:
     """Only reads the text."""
-    parse(data)
+    parse(data, dialect=dialect)
 
 
 # What says on standard output what is refused, and how many files there were: what it did to those
@@ -166,9 +166,9 @@ COUNTS: Dict[Write, str] = {
 }
 # What writes the layout of a file that is refused, by what writes that of others.
 PARTLY: Dict[Write, Write] = {
-    write_format: partial(write_format, lay=format_partly),
-    write_name: partial(write_name, lay=format_partly),
-    write_file: partial(write_file, lay=format_partly),
+    write_format: partial(write_format, is_partial=True),
+    write_name: partial(write_name, is_partial=True),
+    write_file: partial(write_file, is_partial=True),
 }
 
 
@@ -191,9 +191,10 @@ class Run:
 
     def __init__(
         self, write: Write, out: BinaryIO, is_named: bool, most: int = MOST_ERRORS,
-        partly: Optional[Write] = None,
+        partly: Optional[Write] = None, dialect: Dialect = "weedle2",
     ) -> None:
         self.write, self.out, self.most, self.partly = write, out, most, partly
+        self.dialect: Dialect = dialect
         self.is_named = is_named or bool(COUNTS.get(write))
         self.files = self.refused = self.unread = self.changed = self.errors = 0
 
@@ -207,7 +208,8 @@ class Run:
             return self.complain(name, f"cannot read input: {why}", Status.UNREADABLE)
         try:
             try:
-                changes = bool(self.write(data, self.out, name if self.is_named else None))
+                shown = name if self.is_named else None
+                changes = bool(self.write(data, self.out, shown, self.dialect))
             except Refused as refused:
                 return self.refuse(name, data, refused)
         except UnicodeDecodeError:
@@ -222,9 +224,9 @@ class Run:
     def refuse(self, name: str, data: bytes, refused: Refused) -> Status:
         """Writes what is read of a file that is refused, where that is asked for, and says why it is."""
         if self.partly:
-            self.changed += bool(self.partly(data, self.out, name))
+            self.changed += bool(self.partly(data, self.out, name, self.dialect))
         if COUNTS.get(self.write):
-            self.tell(f"{name}:{refused}")
+            self.tell(f"{name}:{refused.said(IN_PROGRAMS)}")
         else:
             self.tell_all(name, data, refused)
         self.files, self.refused = self.files + 1, self.refused + 1
@@ -233,15 +235,17 @@ class Run:
     def tell_all(self, name: str, data: bytes, refused: Refused) -> None:
         """Says all errors of a file: the first as `parse` has it, the others part by part."""
         try:
-            others = recover(data).errors[1:] if self.most > 1 else []
-        except MemoryError:
+            others = recover(data, dialect=self.dialect).errors[1:] if self.most > 1 else []
+        except (MemoryError, RecursionError):
             others = []
         self.errors += 1 + len(others)
         for it in [refused, *others][:self.most]:
-            self.tell(f"{name}:{it}")
+            self.tell(f"{name}:{it.why()}")
         left = 1 + len(others) - self.most
         if left > 0:
             self.tell(f"{name}: {left} more error{'s' * (left != 1)}")
+        if refused.is_read_today:
+            self.tell(f"{READ_TODAY}: {IN_PROGRAMS}")
 
     def tell(self, line: str) -> None:
         """Says why a file is refused: where files are counted, there."""
@@ -316,6 +320,10 @@ def parser_of_words() -> Parser:
         "--errors", metavar="N", type=number, default=MOST_ERRORS,
         help=f"say so many errors of each file at most ({MOST_ERRORS}); with 1 look for no others",
     )
+    parser.add_argument(
+        "--today", dest="dialect", action="store_const", const="today", default="weedle2",
+        help="read by the rules of today's WebIDL, and not by those of weedle2",
+    )
     parser.add_argument("--version", action="version", version=f"%(prog)s {__version__}")
     parser.add_argument(
         "files", metavar="FILE", nargs="*", help="else standard input is read, as by -",
@@ -356,7 +364,10 @@ def main(words: Optional[Sequence[str]] = None) -> int:
     try:
         if is_lint:
             return lint.main(words[1:], out)
-        return Run(wanted.write, out, len(files) > 1, wanted.errors, wanted.partly).read_all(files)
+        run = Run(
+            wanted.write, out, len(files) > 1, wanted.errors, wanted.partly, wanted.dialect,
+        )
+        return run.read_all(files)
     except OSError as fault:
         # what waits is let go of: Python 3.13 says of a buffer that it can't flush it
         with suppress(OSError):

@@ -5,13 +5,17 @@ from __future__ import annotations
 from functools import cache
 from typing import Any, Dict, Iterator, List, Sequence, Tuple, get_type_hints
 
-from weedle import _walking, _words, _writing
+from weedle import _words
+from weedle._dialect import TODAY, WEEDLE2, Grammar
 from weedle._formatting import format
-from weedle._making import Parts, entries_of, parts_of
+from weedle._making import Parts, parts_of
 from weedle._placed import UNPLACED
 
 # Definitions of one of these kinds that take a line each are below one another.
 STATEMENTS = frozenset({"Callback", "Typedef", "IncludesStatement", "Implements"})
+# The modules of definitions, and that of what today's tree alone has.
+OF_TODAY = "weedle.today"
+OF_DEFINITIONS = frozenset(["weedle.definitions", OF_TODAY])
 
 
 @cache
@@ -61,7 +65,7 @@ def walk(root: Any) -> Iterator[Any]:
                 yield it
                 waiting += reversed(it._in_order())
             else:
-                yield from _walking.values_in(it._tree, it._node)
+                yield from it.walk()
 
 
 def written(root: Any, style: Any) -> str:
@@ -74,7 +78,7 @@ def written(root: Any, style: Any) -> str:
         if is_text:
             pieces.append(it)
         elif getattr(it, "_tree", UNPLACED) is not UNPLACED and not isinstance(it, Parts):
-            pieces.append(_writing.write(it._tree, it._node, entries_of(style)))
+            pieces.append(it._written(style))
         else:
             waiting += reversed(list(written_parts(it, style())))
     return "".join(pieces)
@@ -101,32 +105,50 @@ def to_webidl(value: Any) -> str:
     """The value as WebIDL, formatted where it is a definition, or a list of such."""
     from weedle import parse  # it is above the values
 
-    items = value if isinstance(value, list) else [value]
+    items, grammar = value if isinstance(value, list) else [value], grammar_of(value)
     if not items or not all(map(is_definition, items)):
-        return _words.one_line(value)
+        return _words.one_line(value, grammar)
     # lines end as this one does, and not as one of a docstring with a CR
-    found = format(apart(items) + "\n")
-    if not is_said(value, parse(found)):
+    last = getattr(value, "docstrings", []) if value is items else []
+    said = f"{apart(items, grammar)}\n{_words.one_line(last, grammar)}"
+    found = format(said, dialect=grammar.name)
+    if not is_said(value, parse(found, dialect=grammar.name)):
         raise _words.Unwritable(f"no text says what was built: {found!r} is read as something else")
     return found
 
 
-def apart(definitions: List[Any]) -> str:
+def apart(definitions: List[Any], grammar: Grammar) -> str:
     """The words of definitions: statements of one kind are below one another, and others apart."""
     text, before = "", ""
     for it in definitions:
         kind = getattr(it, "variant", "")
         if text:
             text += "\n" if kind == before and kind in STATEMENTS else "\n\n"
-        text, before = text + _words.one_line(it), kind
+        text, before = text + _words.one_line(it, grammar), kind
     return text
 
 
 def is_definition(value: Any) -> bool:
     """Whether a value is a definition, or what one holds."""
     return type(value).__mro__[1].__name__ == "Definition" or (
-        type(value).__module__ == "weedle.definitions" and type(value).__name__.endswith("Definition")
+        type(value).__module__ in OF_DEFINITIONS and type(value).__name__.endswith("Definition")
     )
+
+
+def grammar_of(root: Any) -> Grammar:
+    """The grammar by which a value is written, or several: today's where one of today's is in them."""
+    waiting = [root]
+    while waiting:
+        it = waiting.pop()
+        tree = getattr(it, "_tree", UNPLACED)
+        is_built = tree is UNPLACED
+        if type(it).__module__ == OF_TODAY or not is_built and tree.grammar == TODAY:
+            return TODAY
+        if is_built and isinstance(it, (list, tuple)):
+            waiting += it
+        elif is_built and it is not None and not isinstance(it, (str, bool)):
+            waiting += it._in_order()
+    return WEEDLE2
 
 
 def is_said(value: Any, definitions: Any) -> bool:

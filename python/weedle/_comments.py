@@ -69,10 +69,20 @@ def said(comment: str) -> List[str]:
     return [BACK.sub("", FRONT.sub("", line)) for line in lines]
 
 
+def docstrings_of(value: Any) -> List[Any]:
+    """The docstrings in front of a definition, a member or a value of an enum."""
+    docstring = getattr(value, "docstring", None)
+    if docstring:
+        return [docstring]
+    # of what is between braces they are behind its members
+    return [] if hasattr(value, "body") else getattr(value, "docstrings", [])
+
+
 def doc_of(value: Any) -> str:
     """The docstring of a value, or else what the comments in front of it say; empty without both."""
     inner = getattr(value, "value", None)
-    docstring = getattr(value, "docstring", None) or getattr(inner, "docstring", None)
-    if docstring:
-        return "\n".join(re.sub(r"^ ", "", line) for line in docstring.value.split("\n"))
+    found = docstrings_of(value) or docstrings_of(inner)
+    if found:
+        lines = [line for it in found for line in it.value.split("\n")]
+        return "\n".join(re.sub(r"^ ", "", line) for line in lines)
     return "\n".join(line for it in value.comments for line in said(it)).strip("\n")

@@ -7,6 +7,7 @@ from itertools import groupby
 from typing import TypeVar
 
 from weedle import _library
+from weedle._dialect import WEEDLE2, Dialect, Grammar, grammar_of
 from weedle._reading import fault_of
 from weedle._text import Text
 from weedle.errors import Refused
@@ -29,7 +30,7 @@ def is_blank(data: bytes) -> bool:
 
 
 def format(  # the name that every formatter has, though Python has one of it
-    text: Given, *, partial: bool = False
+    text: Given, *, partial: bool = False, dialect: Dialect = "weedle2"
 ) -> Given:
     """The formatted text, of the type that it has.
 
@@ -47,48 +48,54 @@ def format(  # the name that every formatter has, though Python has one of it
 
     >>> format("A   includes B ;  typedef ;", partial=True)
     'A includes B;  typedef ;'
+
+    With `dialect="today"` the rules are those of today's WebIDL.
     """
-    given = Text(text)
+    given, grammar = Text(text), grammar_of(dialect)
     try:
-        made = _laid_out(given)
+        made = _laid_out(given, grammar)
     except Refused:
         if not partial:
             raise
-        made = _laid_out_partly(given.data)
+        made = _laid_out_partly(given.data, grammar)
     return made.decode() if isinstance(text, str) else made
 
 
-def _laid_out(given: Text) -> bytes:
+def _laid_out(given: Text, grammar: Grammar) -> bytes:
     """The bytes of a formatted text."""
     if is_blank(given.data):
         given.data.decode()  # what isn't UTF-8 raises
         return given.data
     try:
-        return _library.lay_out(given.data)
+        return _library.lay_out(given.data, grammar.number)
     except _library.Unread as unread:
-        raise fault_of(given, unread.status, unread.rest) from None
+        raise fault_of(given, unread.status, unread.rest, grammar) from None
 
 
-def _laid_out_partly(data: bytes) -> bytes:
+def _laid_out_partly(data: bytes, grammar: Grammar) -> bytes:
     """The bytes of a text in which the definitions that are read are formatted."""
     made = []
-    for is_read, run in groupby(recover(data).parts, _is_definition):
+    for is_read, run in groupby(recover(data, dialect=grammar.name).parts, _is_whole):
         spans = [it.span for it in run]
         start, end = spans[0].start, spans[-1].end
         stretch = data[start:end]
-        made.append(_run(stretch, start == 0, end == len(data)) if is_read else stretch)
+        is_last = end == len(data)
+        made.append(_run(stretch, start == 0, is_last, grammar) if is_read else stretch)
     return b"".join(made)
 
 
-def _is_definition(part: Part) -> bool:
-    return part.is_read and part.rule == "definition"
+def _is_whole(part: Part) -> bool:
+    """Whether a part is a definition that is read, or what no definition follows."""
+    return part.is_read and part.is_piece
 
 
-def _run(data: bytes, is_first: bool, is_last: bool) -> bytes:
+def _run(data: bytes, is_first: bool, is_last: bool, grammar: Grammar = WEEDLE2) -> bytes:
     """Formatted definitions; the whitespace around them stays, where the text goes on there."""
     inner = data.lstrip(BLANKS)
     front = b"" if is_first else data[:len(data) - len(inner)]
+    if is_blank(inner):
+        return data
     if is_last:
-        return front + _library.lay_out(inner)
+        return front + _library.lay_out(inner, grammar.number)
     body = inner.rstrip(BLANKS)
-    return front + _library.lay_out(body).rstrip(BLANKS) + inner[len(body):]
+    return front + _library.lay_out(body, grammar.number).rstrip(BLANKS) + inner[len(body):]

@@ -11,7 +11,7 @@ from typing import Dict
 
 from weedle import (
     argument, attribute, common, definitions, dictionary, interface, literal, mixin, namespace, term,
-    types,
+    today, types,
 )
 
 MODULES = (
@@ -20,11 +20,14 @@ MODULES = (
 
 
 def complete() -> None:
-    """Gives each module the classes of the others, and that of terminals."""
+    """Gives each module the classes of the others, and that of terminals.
+
+    Today's tree has classes of the same names, so these are given to no other module.
+    """
     classes: Dict[str, object] = {"term": term}
     for module in MODULES:
         classes.update((name, getattr(module, name)) for name in names_of(module))
-    for module in MODULES:
+    for module in (*MODULES, today):
         for name, it in classes.items():
             vars(module).setdefault(name, it)
 

@@ -80,6 +80,16 @@ class Lines(Leaf):
         return iter(())
 
 
+class LastLine(Leaf):
+    """A docstring's line, without its `///`, that the text ends in."""
+
+    _kept: ClassVar[int] = 2
+
+    def _put(self, writer: Any) -> Iterator[Any]:
+        writer.put_lines(self.value)
+        return iter(())
+
+
 class Quoted(Leaf):
     """A text in quotes."""
 

@@ -23,8 +23,12 @@ PREBUILT = HOME.parents[1] / f"prebuilt/{MACHINE}-linux/libweedle.so"
 NUMBER, FORMAT = c_uint32, "I"
 FIELDS = ("rule", "depth", "start", "end")
 NODE_SIZE = len(FIELDS) * ctypes.sizeof(NUMBER)
-# What `weedle_syntax` answers.
+# What the calls answer, as `enum weedle_status` of include/weedle.h has it. The last is of today's rules
+# alone: of a text that nests too deep for what is asked.
 READ, REFUSED, NOT_UTF8, NO_MEMORY, NO_ROOM, TOO_LONG = range(6)
+TOO_DEEP = 9
+# The dialect that is meant where none is given: weedle2's.
+USUAL = 0
 # Few texts have more parts than bytes.
 LEAST_PARTS = 64
 # How many bytes there is room for at first: no message was found that has 1,024, and no words that have 2,048.
@@ -138,20 +142,23 @@ def _loaded() -> ctypes.CDLL:
         raise ImportError(_unloaded(path, fault)) from None
     try:
         _compare(path, library)
-        _declare(library)
     except AttributeError as fault:
         raise ImportError(f"{path} isn't weedle's shared object: {fault}") from None
+    _declare(library)
     return library
 
 
 def _compare(path: Path, library: ctypes.CDLL) -> None:
-    """Refuses a shared object of another version, which may lack calls."""
+    """Refuses a shared object of another version, or one that lacks calls."""
     library.weedle_version.restype = library.weedle_rules.restype = c_uint32
     found = library.weedle_version(), library.weedle_rules()
-    if found != (VERSION, len(RULES)):
+    wanted = VERSION, len(RULES)
+    lacking = [name for name in CALLS if not hasattr(library, name)] if found == wanted else []
+    if found != wanted or lacking:
+        lacks = f" without {lacking[0]}" if lacking else ""
         raise ImportError(
-            f"{path} has version {found[0]:#08x} and {found[1]} rules, and this package "
-            f"{VERSION:#08x} and {len(RULES)}: build it anew by python/build.sh"
+            f"{path} has version {found[0]:#08x} and {found[1]} rules{lacks}, and this package "
+            f"{wanted[0]:#08x} and {wanted[1]}: build it anew by python/build.sh"
         )
 
 
@@ -170,18 +177,18 @@ def _unloaded(path: Path, fault: OSError) -> str:
     return f"weedle {said}. python/build.sh of the repository makes it. ({fault})"
 
 
-# What a call is given behind the text, before the room that it writes to.
-TEXT: List[Any] = [c_char_p, c_size_t]
+# What a call is given first, a dialect or a rule and the text, and the room that it writes to.
+TEXT: List[Any] = [c_uint32, c_char_p, c_size_t]
 ROOM: List[Any] = [ctypes.c_void_p, c_size_t]
 CALLS = {
-    "weedle_syntax": [*TEXT, *ROOM, POINTER(SyntaxAnswer)],
-    "weedle_syntax_of": [c_uint32, *TEXT, *ROOM, POINTER(SyntaxAnswer)],
-    "weedle_explain_from": [*TEXT, c_size_t, *ROOM, POINTER(ExplainAnswer)],
-    "weedle_explain_part": [*TEXT, POINTER(PartNumbers), *ROOM, POINTER(ExplainAnswer)],
-    "weedle_expected": [*TEXT, c_size_t, *ROOM, POINTER(ExpectAnswer)],
-    "weedle_expected_part": [*TEXT, POINTER(PartNumbers), *ROOM, POINTER(ExpectAnswer)],
-    "weedle_recover": [*TEXT, *ROOM, *ROOM, POINTER(RecoverAnswer)],
-    "weedle_format": [*TEXT, *ROOM, POINTER(FormatAnswer)],
+    "weedle_syntax_in": [*TEXT, *ROOM, POINTER(SyntaxAnswer)],
+    "weedle_syntax_of": [*TEXT, *ROOM, POINTER(SyntaxAnswer)],
+    "weedle_explain_in": [*TEXT, c_size_t, *ROOM, POINTER(ExplainAnswer)],
+    "weedle_explain_part_in": [*TEXT, POINTER(PartNumbers), *ROOM, POINTER(ExplainAnswer)],
+    "weedle_expected_in": [*TEXT, c_size_t, *ROOM, POINTER(ExpectAnswer)],
+    "weedle_expected_part_in": [*TEXT, POINTER(PartNumbers), *ROOM, POINTER(ExpectAnswer)],
+    "weedle_recover_in": [*TEXT, *ROOM, *ROOM, POINTER(RecoverAnswer)],
+    "weedle_format_in": [*TEXT, *ROOM, POINTER(FormatAnswer)],
 }
 
 
@@ -204,7 +211,9 @@ def _room(size: int) -> Buffer:
         raise MemoryError(f"no memory for {size} bytes") from None
 
 
-def _call(data: bytes, nodes: int, rule: Optional[int] = None) -> tuple[int, Buffer, SyntaxAnswer]:
+def _call(
+    data: bytes, nodes: int, rule: Optional[int] = None, dialect: int = USUAL,
+) -> tuple[int, Buffer, SyntaxAnswer]:
     """The status with room for so many nodes, the room, and the answer; of a rule, or of the text."""
     # No pointer is null, also where there is room for no node.
     room = _room(max(nodes, 1) * NODE_SIZE)
@@ -212,25 +221,27 @@ def _call(data: bytes, nodes: int, rule: Optional[int] = None) -> tuple[int, Buf
     # A view has to go before the room can shrink.
     address = ctypes.addressof(ctypes.c_char.from_buffer(room))
     if rule is None:
-        status = LIBRARY.weedle_syntax(data, len(data), address, nodes, byref(answer))
+        status = LIBRARY.weedle_syntax_in(dialect, data, len(data), address, nodes, byref(answer))
     else:
         status = LIBRARY.weedle_syntax_of(rule, data, len(data), address, nodes, byref(answer))
     return status, room, answer
 
 
-def _first_call(data: bytes, rule: Optional[int]) -> tuple[int, Buffer, SyntaxAnswer]:
+def _first_call(
+    data: bytes, rule: Optional[int], dialect: int,
+) -> tuple[int, Buffer, SyntaxAnswer]:
     """The same with room for all nodes; where the system grants no such room, they are counted."""
     try:
-        return _call(data, _most_nodes(data), rule)
+        return _call(data, _most_nodes(data), rule, dialect)
     except MemoryError:
-        return _call(data, 0, rule)
+        return _call(data, 0, rule, dialect)
 
 
-def read_nodes(data: bytes, rule: Optional[int] = None) -> memoryview:
+def read_nodes(data: bytes, rule: Optional[int] = None, dialect: int = USUAL) -> memoryview:
     """The numbers of all nodes, four a node, or Unread: of a rule at the front, or of the whole text."""
-    status, room, answer = _first_call(data, rule)
+    status, room, answer = _first_call(data, rule, dialect)
     if status == NO_ROOM:
-        status, room, answer = _call(data, answer.count, rule)
+        status, room, answer = _call(data, answer.count, rule, dialect)
     if status != READ:
         raise Unread(status, answer.rest)
     return memoryview(_cut(room, answer.count * NODE_SIZE)).cast("B").cast(FORMAT)
@@ -254,16 +265,25 @@ def _numbers(part: Part) -> PartNumbers:
     return PartNumbers(*part)
 
 
-def explain(data: bytes, start: int) -> Explanation:
-    """Why the text from a byte on is refused; MemoryError where there is no room to find it."""
-    call = LIBRARY.weedle_explain_from
-    return _explained(lambda *room: call(data, len(data), start, *room))
+def is_read(data: bytes, dialect: int) -> bool:
+    """Whether the rules of a dialect read a whole text; no nodes are written."""
+    status, _, _ = _call(data, 0, None, dialect)
+    return status in (READ, NO_ROOM)
 
 
-def explain_part(data: bytes, part: Part) -> Explanation:
-    """Why a part is unread; MemoryError where there is no room to find it."""
-    call = LIBRARY.weedle_explain_part
-    return _explained(lambda *room: call(data, len(data), byref(_numbers(part)), *room))
+def explain(data: bytes, start: int, dialect: int = USUAL) -> Explanation:
+    """Why the text from a byte on is refused; MemoryError where there is no room to find it.
+
+    RecursionError of a text that nests too deep for it.
+    """
+    call = LIBRARY.weedle_explain_in
+    return _explained(lambda *room: call(dialect, data, len(data), start, *room))
+
+
+def explain_part(data: bytes, part: Part, dialect: int = USUAL) -> Explanation:
+    """Why a part is unread, with the same exceptions."""
+    call = LIBRARY.weedle_explain_part_in
+    return _explained(lambda *room: call(dialect, data, len(data), byref(_numbers(part)), *room))
 
 
 def _explained(call: Callable[..., int]) -> Explanation:
@@ -274,6 +294,8 @@ def _explained(call: Callable[..., int]) -> Explanation:
         status = call(_address(room), size, byref(answer))
         if status == NO_MEMORY:
             raise MemoryError("no memory to explain why the text is refused")
+        if status == TOO_DEEP:
+            raise RecursionError("the text nests too deep to explain why it is refused")
         if answer.length < size:
             break
         # A zero follows the message.
@@ -285,16 +307,19 @@ def _explained(call: Callable[..., int]) -> Explanation:
     )
 
 
-def expected(data: bytes, start: int) -> List[str]:
-    """The words for what would go on where the reading from a byte on comes furthest; else MemoryError."""
-    call = LIBRARY.weedle_expected
-    return _expected(lambda *room: call(data, len(data), start, *room))
+def expected(data: bytes, start: int, dialect: int = USUAL) -> List[str]:
+    """The words for what would go on where the reading from a byte on comes furthest.
+
+    Else MemoryError, or RecursionError of a text that nests too deep for it.
+    """
+    call = LIBRARY.weedle_expected_in
+    return _expected(lambda *room: call(dialect, data, len(data), start, *room))
 
 
-def expected_part(data: bytes, part: Part) -> List[str]:
+def expected_part(data: bytes, part: Part, dialect: int = USUAL) -> List[str]:
     """The same of an unread part."""
-    call = LIBRARY.weedle_expected_part
-    return _expected(lambda *room: call(data, len(data), byref(_numbers(part)), *room))
+    call = LIBRARY.weedle_expected_part_in
+    return _expected(lambda *room: call(dialect, data, len(data), byref(_numbers(part)), *room))
 
 
 def _expected(call: Callable[..., int]) -> List[str]:
@@ -303,21 +328,23 @@ def _expected(call: Callable[..., int]) -> List[str]:
     while status == NO_ROOM:
         room, answer = bytearray(size), ExpectAnswer()
         status, size = call(_address(room), size, byref(answer)), answer.length
+    if status == TOO_DEEP:
+        raise RecursionError("the text nests too deep to say what is expected")
     if status != READ:
         raise MemoryError("no memory to say what is expected")
     return room[:answer.length].decode().split("\0")[:-1]
 
 
-def recover(data: bytes) -> Tuple[List[Part], memoryview]:
+def recover(data: bytes, dialect: int = USUAL) -> Tuple[List[Part], memoryview]:
     """The parts of a text, and the numbers of the nodes of those that are read, or Unread."""
     try:
         rooms = _room((len(data) + LEAST_PARTS) * PART_SIZE), _room(_most_nodes(data) * NODE_SIZE)
     except MemoryError:
         rooms = bytearray(PART_SIZE), bytearray(NODE_SIZE)
-    status, answer = _recovered(data, *rooms)
+    status, answer = _recovered(data, dialect, *rooms)
     if status == NO_ROOM:
         rooms = _room(answer.parts * PART_SIZE), _room(max(answer.nodes, 1) * NODE_SIZE)
-        status, answer = _recovered(data, *rooms)
+        status, answer = _recovered(data, dialect, *rooms)
     if status != READ:
         raise Unread(status, answer.rest)
     parts = memoryview(rooms[0])[:answer.parts * PART_SIZE].cast("B").cast(FORMAT).tolist()
@@ -326,12 +353,14 @@ def recover(data: bytes) -> Tuple[List[Part], memoryview]:
     return found, memoryview(nodes).cast("B").cast(FORMAT)
 
 
-def _recovered(data: bytes, parts: Buffer, nodes: Buffer) -> Tuple[int, RecoverAnswer]:
+def _recovered(
+    data: bytes, dialect: int, parts: Buffer, nodes: Buffer,
+) -> Tuple[int, RecoverAnswer]:
     """The status with these rooms, and the answer."""
     answer = RecoverAnswer()
-    status = LIBRARY.weedle_recover(
-        data, len(data), _address(parts), len(parts) // PART_SIZE, _address(nodes), len(nodes) // NODE_SIZE,
-        byref(answer),
+    status = LIBRARY.weedle_recover_in(
+        dialect, data, len(data), _address(parts), len(parts) // PART_SIZE,
+        _address(nodes), len(nodes) // NODE_SIZE, byref(answer),
     )
     return status, answer
 
@@ -341,13 +370,15 @@ def _most_nodes(data: bytes) -> int:
     return len(data) * NODES_A_BYTE + LEAST_NODES
 
 
-def lay_out(data: bytes) -> bytes:
+def lay_out(data: bytes, dialect: int = USUAL) -> bytes:
     """The formatted text, or Unread."""
     size = 2 * len(data) + LEAST_NODES
     while True:
         room, answer = _room(size), FormatAnswer()
         address = ctypes.addressof(ctypes.c_char.from_buffer(room))
-        status = LIBRARY.weedle_format(data, len(data), address, size, byref(answer))
+        status = LIBRARY.weedle_format_in(
+            dialect, data, len(data), address, size, byref(answer),
+        )
         if status == READ:
             return bytes(memoryview(room)[:answer.length])
         if status != NO_ROOM:

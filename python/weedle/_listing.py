@@ -5,6 +5,8 @@ from __future__ import annotations
 from typing import TYPE_CHECKING, Any, Iterator, List, Sequence, Type, TypeVar
 
 from weedle import _building
+from weedle._dialect import GRAMMARS, Dialect
+from weedle._making import made
 from weedle._tree import Tree
 from weedle.errors import Refused
 from weedle.grammar import NUMBERS
@@ -16,8 +18,11 @@ if TYPE_CHECKING:
 
 D = TypeVar("D")
 V = TypeVar("V", bound="Value")
-# The rules whose names are known: that of the whole text, and that of a definition.
-WHOLE, DEFINITION = NUMBERS["definitions"], NUMBERS["definition"]
+# The rules of a whole text, of a definition, and of what a text is divided into; and those of docstrings that
+# no definition follows.
+WHOLE = frozenset(it.whole for it in GRAMMARS.values())
+PIECES = frozenset(rule for it in GRAMMARS.values() for rule in (it.item, it.definition))
+DOCS = frozenset(NUMBERS[name] for name in ("today_doc", "today_last_doc"))
 
 
 class Listing(List[D]):
@@ -38,12 +43,26 @@ class Listing(List[D]):
 
         ValueError of a text that was read with `recover=True`, of which `weedle.recover` has the nodes.
         """
-        if self._roots() != [0] or self._tree.rules[0] != WHOLE:
+        if self._roots() != [0] or self._tree.rules[0] not in WHOLE:
             raise ValueError("a text that was read with recover=True has no node for all of it")
         return Node(self._tree, 0)
 
     def _roots(self) -> List[int]:
-        return [it for it in self._tree.roots() if self._tree.rules[it] in (WHOLE, DEFINITION)]
+        rules = self._tree.rules
+        return [it for it in self._tree.roots() if rules[it] in WHOLE or rules[it] in PIECES]
+
+    @property
+    def dialect(self) -> Dialect:
+        """The dialect that the text was read by, as "weedle2"."""
+        return self._tree.grammar.name
+
+    @property
+    def docstrings(self) -> List[Any]:
+        """The docstrings that no definition follows; only today's rules read such."""
+        tree, item = self._tree, self._tree.grammar.item
+        found = [node + 1 for root in self._roots() for node in [root, *tree.children(root)]
+                 if tree.rules[node] == item and node + 1 < tree.count]
+        return [made(tree, it) for it in found if tree.rules[it] in DOCS]
 
     def walk(self) -> Iterator[Value]:
         """All values in the list, each before those below it, terminals included."""

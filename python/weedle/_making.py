@@ -78,8 +78,86 @@ class Variants:
     def __call__(self, tree: Tree, node: int) -> Any:
         return self._makes[tree.rules[node + 1]](tree, node)
 
+    def kinds_at(self, tree: Tree, node: int) -> Tuple[Any, ...]:
+        """The classes of the values of a node."""
+        return (self.classes[tree.rules[node + 1]],)
+
+    def kinds(self) -> List[Any]:
+        """The classes of all values that it makes."""
+        return list(self.classes.values())
+
     def _entry(self, style: Any, rule: int) -> Any:
         return {below: style.variant(it) for below, it in self.classes.items()}
+
+
+class Kinds(Variants):
+    """Makes the variant of a factored row: docstrings and attributes are in front of what was chosen.
+
+    The variant and the struct that it holds are both at the node of that row. By the names of the rules
+    that may be chosen it has both.
+    """
+
+    def __init__(self, names: Dict[str, Tuple[Any, Any]]) -> None:
+        super().__init__({name: variant for name, (variant, _) in names.items()})
+        self.structs = {NUMBERS[name]: struct for name, (_, struct) in names.items()}
+        self._inner = {number: maker_of(it) for number, it in self.structs.items()}
+
+    def __call__(self, tree: Tree, node: int) -> Any:
+        return self._makes[tree.rules[chosen(tree, node)]](tree, node)
+
+    def inner(self, tree: Tree, node: int) -> Any:
+        """The struct that the variant holds."""
+        return self._inner[tree.rules[chosen(tree, node)]](tree, node)
+
+    def kinds_at(self, tree: Tree, node: int) -> Tuple[Any, ...]:
+        rule = tree.rules[chosen(tree, node)]
+        return self.classes[rule], self.structs[rule]
+
+    def kinds(self) -> List[Any]:
+        return [*self.classes.values(), *self.structs.values()]
+
+    def _entry(self, style: Any, rule: int) -> Any:
+        return _writing.Chosen({
+            below: style.variant(it).around(self.structs[below]._entry(style, rule))
+            for below, it in self.classes.items()
+        })
+
+
+def chosen(tree: Tree, node: int) -> int:
+    """The node of what was chosen in a factored row: its last part is the choice."""
+    return tree.children(node)[-1] + 1
+
+
+class Through:
+    """Makes what is below a node that has one part. What a factored row chose has no value of its own."""
+
+    def __call__(self, tree: Tree, node: int) -> Any:
+        below = tree.children(node)
+        make = MAKE[tree.rules[below[0]]] if len(below) == 1 else None
+        return make(tree, below[0]) if make else None
+
+    def _entry(self, style: Any, rule: int) -> Any:
+        return _writing.THROUGH
+
+
+class Within:
+    """Makes what is in the part of this number."""
+
+    def __init__(self, number: int) -> None:
+        self.number = number
+
+    def __call__(self, tree: Tree, node: int) -> Any:
+        return made(tree, tree.child(node, self.number))
+
+    def _entry(self, style: Any, rule: int) -> Any:
+        return _writing.THROUGH
+
+
+class Pieces(Many):
+    """Makes a list of definitions, and of the docstrings that none follows."""
+
+    def __call__(self, tree: Tree, node: int) -> List[Any]:
+        return [it for it in super().__call__(tree, node) if it is not None]
 
 
 class Between:
@@ -107,13 +185,15 @@ def maker_of(kind: Any) -> Make:
 
 # By the number of a rule: what makes its values, a class or one of the classes above; what is called for
 # that; the same where that gives one value, which is no list and not what another rule gives; and the
-# class, where it is one. The rules of what may be absent. And the class of a list's separator.
+# class, where it is one. The rules of what may be absent. Those of factored rows. And the class of a list's
+# separator.
 # weedle/_readers.py fills them.
 MAKERS: List[Any] = []
 MAKE: List[Any] = []
 MAKE_VALUE: List[Any] = []
 KINDS: List[Any] = []
 OPTIONS: Set[int] = set()
+FACTORED: Dict[int, Kinds] = {}
 SEPARATORS: Dict[int, Any] = {}
 
 
@@ -126,6 +206,7 @@ def fill(makers: List[Any], separators: Dict[int, Any]) -> None:
     ]
     KINDS[:] = [it if isinstance(it, type) else None for it in makers]
     OPTIONS.update(rule for rule, it in enumerate(makers) if isinstance(it, Maybe))
+    FACTORED.update((rule, it) for rule, it in enumerate(makers) if isinstance(it, Kinds))
     SEPARATORS.update(separators)
 
 
@@ -145,7 +226,7 @@ def rules_of(kind: Any) -> FrozenSet[int]:
     """The rules that may give a value of a class, or of one that derives from it."""
     found = set()
     for rule, it in enumerate(MAKERS):
-        kinds = it.classes.values() if isinstance(it, Variants) else [it]
+        kinds = it.kinds() if isinstance(it, Variants) else [it]
         if any(isinstance(other, type) and issubclass(other, kind) for other in kinds):
             found.add(rule)
     return frozenset(found)

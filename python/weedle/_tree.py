@@ -7,6 +7,7 @@ from bisect import bisect_left
 from functools import cache, cached_property
 from typing import Any, Iterator, List, Optional, Tuple
 
+from weedle._dialect import WEEDLE2, Grammar, dialect_of_rule
 from weedle._library import FIELDS
 from weedle._text import Span, Text
 from weedle.grammar import NUMBERS, VERSION
@@ -29,8 +30,13 @@ def at_most(depth: int) -> re.Pattern[bytes]:
 class Tree:
     """A text that was read, with the rule, the start, the end and the depth of each node."""
 
-    def __init__(self, text: Text, numbers: memoryview, rule: Optional[int] = None) -> None:
+    def __init__(
+        self, text: Text, numbers: memoryview, rule: Optional[int] = None,
+        grammar: Grammar = WEEDLE2,
+    ) -> None:
         self.text, self._numbers, self._rule = text, numbers, rule
+        #: The grammar by which it was read: of one rule that which has the rule.
+        self.grammar = grammar if rule is None or grammar != WEEDLE2 else dialect_of_rule(rule)
         columns = {name: numbers[at::len(FIELDS)] for at, name in enumerate(FIELDS)}
         self.rules, self.depths = columns["rule"], columns["depth"]
         self.starts, self.ends = columns["start"], columns["end"]
@@ -165,7 +171,7 @@ class Tree:
         # the text says all: what it was read as is read again
         from weedle._reading import tree_again
 
-        return tree_again, (self.text.data, VERSION, self._rule)
+        return tree_again, (self.text.data, VERSION, self._rule, self.grammar.name)
 
     def __deepcopy__(self, memo: Any) -> Tree:
         return self
@@ -188,4 +194,4 @@ class Forest(Tree):
     def __reduce__(self) -> Tuple[Any, ...]:
         from weedle._reading import forest_again
 
-        return forest_again, (self.text.data, VERSION)
+        return forest_again, (self.text.data, VERSION, self.grammar.name)

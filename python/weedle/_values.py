@@ -3,12 +3,13 @@
 from __future__ import annotations
 
 from dataclasses import FrozenInstanceError, dataclass, field, fields
+from itertools import islice
 from typing import (
     Any, ClassVar, Dict, Generic, Iterator, List, Optional, Tuple, Type, TypeVar, Union, overload,
 )
 
 from weedle import _building, _comments, _walking, _words, _writing
-from weedle._making import KINDS, MAKE, OPTIONS, SEPARATORS, entries_of, made
+from weedle._making import FACTORED, KINDS, MAKE, OPTIONS, SEPARATORS, chosen, entries_of, made
 from weedle._placed import UNPLACED, Placed
 from weedle._tree import Tree
 
@@ -240,6 +241,46 @@ def _placed_at(kind: Type[V], tree: Tree, node: int) -> V:
     return value
 
 
+@value_class
+class Kind(Value):
+    """What the variant of a factored row holds: what is in front of the choice is a part of it too.
+
+    It is at the node of its variant.
+    """
+
+    def walk(self) -> Iterator[Value]:
+        """The value and all below it, each before those below it, terminals included."""
+        if self._tree is UNPLACED:
+            return super().walk()
+        return islice(_walking.values_in(self._tree, self._node), 1, None)
+
+    def find(self, kind: Type[V]) -> Iterator[V]:
+        """Those of a class among them, as `value.find(Identifier)`."""
+        if self._tree is UNPLACED:
+            return super().find(kind)
+        all_ = _walking.values_of(self._tree, self._node, kind)
+        return (it for it in all_ if it._node != self._node or not isinstance(it, Factored))
+
+    @property
+    def parent(self) -> Optional[Value]:
+        """The variant that holds it; None of what was built."""
+        if self._tree is UNPLACED:
+            return None
+        found: Value = MAKE[self._tree.rules[self._node]](self._tree, self._node)
+        return found
+
+    def _written(self, style: Any) -> str:
+        if self._tree is UNPLACED:
+            return _building.written(self, style)
+        return _writing.write(self._tree, self._node, entries_of(style), self._form(style()))
+
+    def _fill(self) -> None:
+        tree = self._tree
+        nodes = [*tree.children(self._node)[:-1], *tree.children(chosen(tree, self._node))]
+        for name, node in zip(self._names, nodes):
+            keep(self, name, made(tree, node))
+
+
 class Terminal(Value):
     """A word or a sign that is always spelled the same. Two of a kind are equal."""
 
@@ -303,6 +344,14 @@ class Choice(Wrapped):
 
     def _form(self, style: Any) -> Any:
         return style.variant(type(self))
+
+
+class Factored(Choice):
+    """A variant of a factored row, which is at the same node as what it holds."""
+
+    def _fill(self) -> None:
+        tree, node = self._tree, self._node
+        keep(self, "value", FACTORED[tree.rules[node]].inner(tree, node))
 
 
 class Result(Choice):

@@ -4,7 +4,7 @@ from __future__ import annotations
 
 from typing import Any, Iterator, Optional
 
-from weedle._making import KINDS, MAKE_VALUE, MAKERS, Variants, rules_of
+from weedle._making import FACTORED, KINDS, MAKE_VALUE, MAKERS, Variants, rules_of
 from weedle._tree import Tree
 
 
@@ -23,6 +23,8 @@ def values_in(tree: Tree, node: int) -> Iterator[Any]:
             yield value
         elif makes[rule]:
             yield makes[rule](tree, at)
+            if rule in FACTORED:
+                yield FACTORED[rule].inner(tree, at)
 
 
 def values_of(tree: Tree, node: int, kind: type) -> Iterator[Any]:
@@ -31,17 +33,21 @@ def values_of(tree: Tree, node: int, kind: type) -> Iterator[Any]:
     for at, rule in enumerate(tree.rules[node:tree.behind(node)], node):
         if rule in wanted:
             it = MAKERS[rule]
-            found = it.classes[tree.rules[at + 1]] if isinstance(it, Variants) else it
-            if issubclass(found, kind):
+            outer, *inner = it.kinds_at(tree, at) if isinstance(it, Variants) else (it,)
+            if issubclass(outer, kind):
                 yield MAKE_VALUE[rule](tree, at)
+            if inner and issubclass(inner[0], kind):
+                yield FACTORED[rule].inner(tree, at)
 
 
 def parent_of(tree: Tree, node: int) -> Optional[Any]:
     """The value that a node is in, or None."""
     above = tree.above(node)
     while above >= 0:
-        make = MAKE_VALUE[tree.rules[above]]
-        if make:
-            return make(tree, above)
+        rule = tree.rules[above]
+        if rule in FACTORED:
+            return FACTORED[rule].inner(tree, above)
+        if MAKE_VALUE[rule]:
+            return MAKE_VALUE[rule](tree, above)
         above = tree.above(above)
     return None

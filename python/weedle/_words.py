@@ -5,7 +5,7 @@ from __future__ import annotations
 import re
 from typing import Any, Iterator, List
 
-from weedle.grammar import KEYWORDS, READ_BEHIND
+from weedle._dialect import WEEDLE2, Grammar
 
 # What is among words: nothing is to be between the words beside it; a type ends here; arguments
 # begin, which are apart behind a type alone.
@@ -29,11 +29,12 @@ def is_record(parts: Any) -> bool:
 class Writer:
     """Writes words, with a space between two where one belongs."""
 
-    def __init__(self) -> None:
+    def __init__(self, grammar: Grammar = WEEDLE2) -> None:
         self.pieces: List[str] = []
+        self.grammar = grammar
         # the word before, as `READ_BEHIND` has it
         self.before = ""
-        self.is_joined, self.is_behind_type = True, False
+        self.is_joined, self.is_behind_type, self.is_behind_lines = True, False, False
 
     def mark(self, mark: object) -> None:
         """Takes what is among the words."""
@@ -46,14 +47,15 @@ class Writer:
         """Writes a word, which `word` says for those behind it."""
         is_tight = self.is_joined or text in TIGHT_IN_FRONT or self.before + text == "{}"
         self.pieces.append(text if is_tight else " " + text)
-        self.before, self.is_behind_type = word, False
+        self.before, self.is_behind_type, self.is_behind_lines = word, False, False
         self.is_joined = text in TIGHT_BEHIND
 
     def put_name(self, name: str) -> None:
         """Writes a name, behind an underscore where a keyword would be read in its place."""
         if not NAME.fullmatch(name):
             raise Unwritable(f"{name!r} is no name")
-        read = READ_BEHIND.get(self.before, ()) if self.before else KEYWORDS
+        known = self.grammar
+        read = known.read_behind.get(self.before, ()) if self.before else known.keywords
         self.put(f"_{name}" if name in read else name, "a")
 
     def put_leaf(self, value: Any) -> None:
@@ -67,9 +69,11 @@ class Writer:
         self.put(f'"{text}"', "")
 
     def put_lines(self, lines: str) -> None:
-        """Writes a docstring."""
+        """Writes a docstring, behind an empty comment where it would go on with another one."""
+        if self.is_behind_lines:
+            self.pieces.append("//\n")
         self.pieces.append("".join(f"///{it}\n" for it in lines.split("\n")))
-        self.before, self.is_joined = "", True
+        self.before, self.is_joined, self.is_behind_lines = "", True, True
 
     def write(self, root: Any) -> None:
         """Writes the words of a value. Nothing here calls itself: values nest as deep as they will."""
@@ -87,6 +91,7 @@ class Writer:
 def marked(value: Any) -> Iterator[Any]:
     """The parts of a value, with what is among them."""
     is_attribute = type(value).__name__.startswith("ExtendedAttribute")
+    result = getattr(value, "return_type", None)
     for it in value._in_order():
         is_joined = is_attribute and type(it).__name__ == "Assign"
         if is_joined or type(it).__name__ == "Parenthesized" and is_arguments(it):
@@ -94,6 +99,8 @@ def marked(value: Any) -> Iterator[Any]:
         yield it
         if is_joined:
             yield JOINED
+        if it is not None and it is result:
+            yield TYPE_ENDS
 
 
 def is_arguments(it: Any) -> bool:
@@ -101,8 +108,8 @@ def is_arguments(it: Any) -> bool:
     return type(it.body.separator).__name__ == "Comma"
 
 
-def one_line(value: Any) -> str:
+def one_line(value: Any, grammar: Grammar = WEEDLE2) -> str:
     """The words of a value, or of several, on a line except for docstrings."""
-    writer = Writer()
+    writer = Writer(grammar)
     writer.write(value)
     return "".join(writer.pieces)

@@ -42,6 +42,12 @@ class Form:
         lacking = [it + self.absent for it in self.fronts[number:] if it is not None]
         return "".join(lacking) + self.closing
 
+    def around(self, inner: Form) -> Form:
+        """The form of what has one part, which is at the same node: that of the part within this one."""
+        front = self.front(0) or ""
+        opening, closing = self.opening + front + inner.opening, inner.closing + self.closing
+        return Form(opening, inner.fronts, closing, inner.others, inner.absent)
+
 
 class Optional_:
     """How a value is written that may be absent: what stands for it then."""
@@ -50,10 +56,26 @@ class Optional_:
         self.absent = absent
 
 
+class Chosen:
+    """How the values of a factored row are written, by the rule that is chosen behind what is in front."""
+
+    def __init__(self, forms: "dict[int, Form]") -> None:
+        self.forms = forms
+
+    def form(self, tree: Tree, node: int) -> Form:
+        """The form of the value of a node."""
+        return self.forms[tree.rules[tree.children(node)[-1] + 1]]
+
+
+class Passed:
+    """What has no text of its own: what is below it belongs to what is around."""
+
+
 # What gives the whole text of a value.
 Text = Callable[[Tree, int], str]
 # What a rule has: nothing at all; the form of what is chosen is found by the rule below.
-Entry = Union[None, Text, Form, Optional_, "dict[int, Form]"]
+Entry = Union[None, Text, Form, Optional_, Chosen, Passed, "dict[int, Form]"]
+THROUGH = Passed()
 
 PRESENT = Form("", ("",), "")
 # An item and those behind it; and these, each behind a separator.
@@ -151,8 +173,10 @@ class Frame:
         return self.form.front(self.parts - 1)
 
 
-def write(tree: Tree, root: int, entries: Sequence[Entry]) -> str:
-    """The value of a node as text, by the entries of the rules."""
+def write(
+    tree: Tree, root: int, entries: Sequence[Entry], own: Optional[Form] = None,
+) -> str:
+    """The value of a node as text, by the entries of the rules; that node may have a form of its own."""
     behind = tree.behind(root)
     rules, depths = tree.rules, tree.depths
     pieces: List[str] = []
@@ -168,11 +192,14 @@ def write(tree: Tree, root: int, entries: Sequence[Entry]) -> str:
         while frames[-1].depth >= depth:
             frame = frames.pop()
             pieces.append(frame.form.end(frame.parts))
+        if entry is THROUGH:
+            limit = depth + LIMITLESS
+            continue
         front = frames[-1].next_front()
         if front is None:
             continue
         pieces.append(front)
-        form = form_of(entry, tree, node, behind)
+        form = own if own and node == root else form_of(entry, tree, node, behind)
         if isinstance(form, str):
             pieces.append(form)
             continue
@@ -194,6 +221,8 @@ def form_of(entry: Any, tree: Tree, node: int, behind: int) -> Union[Form, str]:
     if type(entry) is dict:
         chosen: Form = entry[tree.rules[node + 1]]
         return chosen
+    if type(entry) is Chosen:
+        return entry.form(tree, node)
     if type(entry) is Optional_:
         is_there = node + 1 < behind and tree.depths[node + 1] > tree.depths[node]
         return PRESENT if is_there else entry.absent

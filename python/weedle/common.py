@@ -96,7 +96,7 @@ class PunctuatedNonEmpty(Listed[T, S]):
     where present, as `a, b,`.
     """
 
-    _fronts = ("",)
+    _fronts = ("", None)
 
     def _listing(self) -> int:
         return self._tree.children(self._node)[0]

@@ -4,11 +4,12 @@ from __future__ import annotations
 
 from typing import Any, Generic, List, Tuple, TypeVar, Union, cast
 
+from weedle import today
+from weedle._dialect import Dialect, grammar_of
 from weedle._text import Span, Text
 from weedle._tree import Tree
 from weedle._values import Value
 from weedle.definitions import Definitions
-from weedle.grammar import KEYWORDS
 from weedle.index import REFERENCES
 from weedle.names import Name, Role
 from weedle.nodes import Node
@@ -27,15 +28,17 @@ DEFINING = frozenset([
 RENAMED = DEFINING | REFERENCES
 
 
+#: The definitions of a text, of either tree.
+AnyDefinitions = Union[Definitions, today.Definitions]
 # A change: from where to where, which of several at a place it is, and what comes there.
 Edit = Tuple[int, int, int, bytes]
 
 
-def parsed(text: Union[str, bytes]) -> Definitions:
+def parsed(text: Union[str, bytes], dialect: Dialect) -> Any:
     """The definitions of a text."""
     from weedle import parse  # it is above
 
-    return parse(text)
+    return parse(text, dialect=dialect)
 
 
 class Edits(Generic[Given]):
@@ -50,13 +53,16 @@ class Edits(Generic[Given]):
     >>> edits.apply()
     'interface B {  }; // of A'
 
-    Places are those of the text that was given, whatever was changed before.
+    Places are those of the text that was given, whatever was changed before. With `dialect="today"` it is
+    read by the rules of today's WebIDL, before and after.
     """
 
-    def __init__(self, text: Given) -> None:
+    def __init__(self, text: Given, *, dialect: Dialect = "weedle2") -> None:
         self._is_str = isinstance(text, str)
+        #: The dialect that the text is read by.
+        self.dialect: Dialect = grammar_of(dialect).name
         #: The definitions of the text, by whose values it is changed.
-        self.definitions = parsed(text)
+        self.definitions: Any = parsed(text, dialect)
         self._data = Text(text).data
         # from where to where; which of several at a place comes first; and what comes there
         self._edits: List[Edit] = []
@@ -91,8 +97,8 @@ class Edits(Generic[Given]):
         the text would then be read otherwise than with the new name in place of the old one.
         """
         names = [it for it in self.definitions.names() if it.text == old and it.role in RENAMED]
-        written = f"_{new}" if new in KEYWORDS else new
-        edits: Edits[bytes] = Edits(self._data)
+        written = f"_{new}" if new in grammar_of(self.dialect).keywords else new
+        edits: Edits[bytes] = Edits(self._data, dialect=self.dialect)
         for name in names:
             edits.replace(name, written)
             self.replace(name, written)
@@ -113,7 +119,7 @@ class Edits(Generic[Given]):
             pieces += [self._data[place:start], new]
             place = end
         data = b"".join([*pieces, self._data[place:]])
-        parsed(data)
+        parsed(data, self.dialect)
         given: Any = data.decode() if self._is_str else data
         return cast(Given, given)
 
@@ -128,10 +134,10 @@ class Edits(Generic[Given]):
         return where.span
 
 
-def is_renamed(definitions: Definitions, edits: Edits[bytes], old: str, new: str) -> bool:
+def is_renamed(definitions: AnyDefinitions, edits: Edits[bytes], old: str, new: str) -> bool:
     """Whether a text with these changes says the same with a new name in place of an old one."""
     try:
-        after = parsed(edits.apply())
+        after = parsed(edits.apply(), edits.dialect)
     except ValueError:
         return False
     found = [(name.role, name.text) for name in after.names()]
@@ -142,6 +148,6 @@ def is_renamed(definitions: Definitions, edits: Edits[bytes], old: str, new: str
     return found == wanted and kinds(definitions) == kinds(after)
 
 
-def kinds(definitions: Definitions) -> List[Any]:
+def kinds(definitions: AnyDefinitions) -> List[Any]:
     """The classes of all values."""
     return [type(it) for it in definitions.walk()]

@@ -5,9 +5,10 @@ from __future__ import annotations
 import re
 from enum import Enum
 from functools import cached_property
-from typing import List, Optional, Tuple
+from typing import ClassVar, List, Optional, Tuple
 
 from weedle import _library
+from weedle._dialect import TODAY, WEEDLE2, Dialect, grammar_of
 from weedle._text import Span, Text
 from weedle.grammar import NUMBERS
 
@@ -16,8 +17,11 @@ SHOWN = 6
 # The rules of members.
 MEMBERS = frozenset(
     NUMBERS[name]
-    for name in ("interface_member", "dictionary_member", "mixin_member", "namespace_member")
+    for member in ("interface_member", "dictionary_member", "mixin_member", "namespace_member")
+    for name in (member, f"today_{member}")
 )
+# What is said of a text that weedle2's rules refuse and today's read whole, and how Python says so.
+READ_TODAY, IN_PYTHON = "today's WebIDL reads it", 'dialect="today"'
 # So many bytes in front of a part are given with it: what is at the front of a text may mean more.
 BEFORE = 8
 # A line and a column, in front of a hint.
@@ -59,25 +63,29 @@ class Refused(ValueError):
     the definition that isn't read, and up to sixteen changes are tried for a hint, each once or
     twice. What precedes that definition isn't read again. Where the text nests deep, by a
     table of it from `start` on, which takes some 1,600 bytes of memory and 2 microseconds a byte.
+    Today's rules have no such table: of a text that nests too deep for them no more is said.
     """
 
-    def __init__(self, text: Text, start: int) -> None:
-        super().__init__(text, start)
-        self._text = text
+    # Whether it speaks of a whole text, as only then another dialect may be meant.
+    _is_of_whole: ClassVar[bool] = True
+
+    def __init__(self, text: Text, start: int, dialect: str = WEEDLE2.name) -> None:
+        super().__init__(text, start, dialect)
+        self._text, self._grammar = text, grammar_of(dialect)
         #: The byte from which on the text is unread: where the first definition that isn't begins.
         self.start = start
 
     def _explain(self) -> _library.Explanation:
-        return _library.explain(self._text.data, self.start)
+        return _library.explain(self._text.data, self.start, self._grammar.number)
 
     def _expect(self) -> List[str]:
-        return _library.expected(self._text.data, self.start)
+        return _library.expected(self._text.data, self.start, self._grammar.number)
 
     @cached_property
     def _explanation(self) -> Optional[_library.Explanation]:
         try:
             return self._explain()
-        except MemoryError:
+        except (MemoryError, RecursionError):
             return None
 
     @cached_property
@@ -85,8 +93,19 @@ class Refused(ValueError):
         """All that would have been read there, as ["`,`", "`}`"]; none where memory ran out for it."""
         try:
             return self._expect()
-        except MemoryError:
+        except (MemoryError, RecursionError):
             return []
+
+    @property
+    def dialect(self) -> Dialect:
+        """The dialect whose rules refuse the text, as "weedle2"."""
+        return self._grammar.name
+
+    @cached_property
+    def is_read_today(self) -> bool:
+        """Whether weedle2's rules refuse the text, and those of today's WebIDL read it whole."""
+        is_asked = self._is_of_whole and self._grammar == WEEDLE2
+        return is_asked and _library.is_read(self._text.data, TODAY.number)
 
     @property
     def place(self) -> int:
@@ -140,11 +159,23 @@ class Refused(ValueError):
 
     @property
     def message(self) -> str:
-        """Line, column and what was expected, the line of the text with a mark, and the hint."""
+        """Line, column and what was expected, the line of the text with a mark, and the hint.
+
+        Of a text that today's rules read whole the last line says so.
+        """
+        return self.said(IN_PYTHON)
+
+    def said(self, how: str) -> str:
+        """The message, whose last line says that today's rules read the text, and how that is asked for."""
+        return self.why() + (f"\n{READ_TODAY}: {how}" if self.is_read_today else "")
+
+    def why(self) -> str:
+        """The message without that line."""
         if self._explanation:
             return self._explanation.message.rstrip("\n")
         line, column = self._text.position(self.start)
-        return f"{line}:{column}: unread from here on; memory ran out for more"
+        why = "memory ran out" if self._grammar == WEEDLE2 else "it nests too deep, or memory ran out,"
+        return f"{line}:{column}: unread from here on; {why} for more"
 
     def __str__(self) -> str:
         return self.message
@@ -155,6 +186,8 @@ class Refused(ValueError):
 
 class RuleRefused(Refused):
     """A text at whose front a rule that was asked for isn't read; of it no more is said."""
+
+    _is_of_whole = False
 
     def __init__(self, text: Text, rule: str) -> None:
         super().__init__(text, 0)
@@ -168,9 +201,7 @@ class RuleRefused(Refused):
     def _expect(self) -> List[str]:
         return [f"the rule `{self.rule}`"]
 
-    @property
-    def message(self) -> str:
-        """Where the text begins, and the rule."""
+    def why(self) -> str:
         return f"1:1: expected {self.expected}"
 
 
@@ -181,9 +212,13 @@ class PartRefused(Refused):
     what it costs doesn't grow with the text, except for `message`.
     """
 
-    def __init__(self, text: Text, numbers: _library.Part) -> None:
-        super().__init__(text, numbers.start)
-        self.args = (text, numbers)
+    _is_of_whole = False
+
+    def __init__(
+        self, text: Text, numbers: _library.Part, dialect: str = WEEDLE2.name,
+    ) -> None:
+        super().__init__(text, numbers.start, dialect)
+        self.args = (text, numbers, dialect)
         self._numbers = numbers
 
     @cached_property
@@ -200,7 +235,7 @@ class PartRefused(Refused):
 
     def _explain(self) -> _library.Explanation:
         data, part, at = self._stretch
-        found = _library.explain_part(data, part)
+        found = _library.explain_part(data, part, self._grammar.number)
         hint_place = found.hint_place + at if found.kind else 0
         hint = self._placed(found.hint, hint_place)
         return found._replace(place=found.place + at, hint_place=hint_place, hint=hint)
@@ -215,13 +250,11 @@ class PartRefused(Refused):
 
     def _expect(self) -> List[str]:
         data, part, _ = self._stretch
-        return _library.expected_part(data, part)
+        return _library.expected_part(data, part, self._grammar.number)
 
-    @property
-    def message(self) -> str:
-        """Line, column and what was expected, the line of the text with a mark, and the hint."""
+    def why(self) -> str:
         try:
-            found = _library.explain_part(self._text.data, self._numbers)
-        except MemoryError:
-            return super().message
+            found = _library.explain_part(self._text.data, self._numbers, self._grammar.number)
+        except (MemoryError, RecursionError):
+            return super().why()
         return found.message.rstrip("\n")

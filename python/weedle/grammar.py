@@ -394,6 +394,140 @@ RULES = (
     "implements_definition",
     "definition",
     "definitions",
+    "bytes_asterisk",
+    "asterisk",
+    "bytes_big_int",
+    "big_int",
+    "bytes_async_iterable_word",
+    "async_iterable_word",
+    "bytes_async_sequence",
+    "async_sequence",
+    "bytes_observable_array",
+    "observable_array",
+    "bytes_float16_array",
+    "float16_array",
+    "bytes_big_int64_array",
+    "big_int64_array",
+    "bytes_big_uint64_array",
+    "big_uint64_array",
+    "bytes_shared_array_buffer",
+    "shared_array_buffer",
+    "today_doc",
+    "today_docs",
+    "today_last_doc",
+    "today_trivia",
+    "today_default_value",
+    "today_default",
+    "opt_today_default",
+    "may_be_null_big_int",
+    "today_const_type",
+    "tail_string_lit_comma",
+    "today_string_list",
+    "parenthesized_today_strings",
+    "today_number",
+    "tail_today_number_comma",
+    "today_number_list",
+    "parenthesized_today_numbers",
+    "generics_today_attributed_type",
+    "today_sequence_type",
+    "today_async_sequence_type",
+    "today_frozen_array_type",
+    "today_observable_array_type",
+    "generics_today_type",
+    "today_promise_type",
+    "generics_today_record_types",
+    "today_record_type",
+    "today_union_type",
+    "may_be_null_today_union_type",
+    "today_word_type",
+    "today_generic_type",
+    "may_be_null_today_word_type",
+    "may_be_null_today_generic_type",
+    "today_non_any_type",
+    "today_key_type",
+    "today_record_types",
+    "today_type",
+    "today_attributes",
+    "today_attribute_lists",
+    "today_attributed_type",
+    "today_attributed_non_any_type",
+    "today_union_member_type",
+    "tail_today_union_member_type_or",
+    "list1_today_union_member_type_or",
+    "today_optional_argument",
+    "opt_ellipsis",
+    "today_required_argument",
+    "today_argument_kind",
+    "today_argument",
+    "tail_today_argument_comma",
+    "today_argument_list",
+    "today_arguments",
+    "today_attribute_arg_list",
+    "today_attribute_named_arg_list",
+    "today_attribute_wildcard",
+    "today_attribute_number",
+    "today_attribute_strings",
+    "today_attribute_numbers",
+    "today_attribute",
+    "tail_today_attribute_comma",
+    "list_today_attribute_comma",
+    "today_key_and_value_types",
+    "generics_today_key_and_value_types",
+    "today_second_type",
+    "opt_today_second_type",
+    "today_iterated",
+    "today_const",
+    "today_attribute_member",
+    "today_constructor",
+    "today_operation",
+    "today_iterable",
+    "today_async_words",
+    "opt_today_arguments",
+    "today_async_iterable",
+    "today_maplike",
+    "today_setlike",
+    "today_stringifier",
+    "today_interface_member_kind",
+    "today_interface_member",
+    "today_mixin_operation",
+    "today_mixin_attribute",
+    "today_mixin_member_kind",
+    "today_mixin_member",
+    "today_namespace_operation",
+    "today_namespace_attribute",
+    "today_namespace_member_kind",
+    "today_namespace_member",
+    "today_dictionary_member",
+    "today_enum_value",
+    "tail_today_enum_value_comma",
+    "list1_today_enum_value_comma",
+    "today_interface_members",
+    "braced_today_interface_members",
+    "today_mixin_members",
+    "braced_today_mixin_members",
+    "today_namespace_members",
+    "braced_today_namespace_members",
+    "today_dictionary_members",
+    "braced_today_dictionary_members",
+    "braced_today_enum_values",
+    "today_callback",
+    "today_callback_interface",
+    "today_interface",
+    "today_mixin",
+    "today_namespace",
+    "today_dictionary",
+    "today_partial_interface",
+    "today_partial_mixin",
+    "today_partial_dictionary",
+    "today_partial_namespace",
+    "today_enum",
+    "today_typedef",
+    "today_includes",
+    "today_implements",
+    "today_definition_kind",
+    "today_definition",
+    "today_piece",
+    "today_definitions",
 )
 
 #: The numbers of the rules, by their names.
@@ -581,4 +715,220 @@ READ_BEHIND = {
     "BufferSource": frozenset(["or"]),
     "Error": frozenset(["or"]),
     "a": frozenset(["implements", "includes", "or"]),
+}
+
+#: The words of today's grammar that have the letters of a name.
+TODAY_KEYWORDS = frozenset(
+        "ArrayBuffer ArrayBufferView BigInt64Array BigUint64Array BufferSource ByteString "
+        "DOMString DataView Error Float16Array Float32Array Float64Array FrozenArray "
+        "Infinity Int16Array Int32Array Int8Array NaN ObservableArray Promise "
+        "SharedArrayBuffer USVString Uint16Array Uint32Array Uint8Array Uint8ClampedArray "
+        "any async async_iterable async_sequence attribute bigint boolean byte callback "
+        "const constructor deleter dictionary double enum false float getter implements "
+        "includes inherit interface iterable legacycaller long maplike mixin namespace "
+        "null object octet optional or partial readonly record required sequence setlike "
+        "setter short static stringifier symbol true typedef undefined unrestricted "
+        "unsigned".split()
+)
+
+#: Which of them are read behind which word.
+TODAY_READ_BEHIND = {
+    "(": frozenset(
+        "ArrayBuffer ArrayBufferView BigInt64Array BigUint64Array BufferSource ByteString "
+        "DOMString DataView Error Float16Array Float32Array Float64Array FrozenArray "
+        "Infinity Int16Array Int32Array Int8Array NaN ObservableArray Promise "
+        "SharedArrayBuffer USVString Uint16Array Uint32Array Uint8Array Uint8ClampedArray "
+        "any async_sequence bigint boolean byte double float long object octet optional "
+        "record sequence short symbol undefined unrestricted unsigned".split()
+    ),
+    ")": frozenset(["or"]),
+    "]": frozenset(
+        "ArrayBuffer ArrayBufferView BigInt64Array BigUint64Array BufferSource ByteString "
+        "DOMString DataView Error Float16Array Float32Array Float64Array FrozenArray "
+        "Int16Array Int32Array Int8Array ObservableArray Promise SharedArrayBuffer "
+        "USVString Uint16Array Uint32Array Uint8Array Uint8ClampedArray any async "
+        "async_iterable async_sequence attribute bigint boolean byte callback const "
+        "constructor deleter dictionary double enum float getter inherit interface "
+        "iterable legacycaller long maplike namespace object octet optional partial "
+        "readonly record required sequence setlike setter short static stringifier symbol "
+        "typedef undefined unrestricted unsigned".split()
+    ),
+    "{": frozenset(
+        "ArrayBuffer ArrayBufferView BigInt64Array BigUint64Array BufferSource ByteString "
+        "DOMString DataView Error Float16Array Float32Array Float64Array FrozenArray "
+        "Int16Array Int32Array Int8Array ObservableArray Promise SharedArrayBuffer "
+        "USVString Uint16Array Uint32Array Uint8Array Uint8ClampedArray any async "
+        "async_iterable async_sequence attribute bigint boolean byte const constructor "
+        "deleter double float getter inherit iterable legacycaller long maplike object "
+        "octet readonly record required sequence setlike setter short static stringifier "
+        "symbol undefined unrestricted unsigned".split()
+    ),
+    ",": frozenset(
+        "ArrayBuffer ArrayBufferView BigInt64Array BigUint64Array BufferSource ByteString "
+        "DOMString DataView Error Float16Array Float32Array Float64Array FrozenArray "
+        "Infinity Int16Array Int32Array Int8Array NaN ObservableArray Promise "
+        "SharedArrayBuffer USVString Uint16Array Uint32Array Uint8Array Uint8ClampedArray "
+        "any async_sequence bigint boolean byte double float long object octet optional "
+        "record sequence short symbol undefined unrestricted unsigned".split()
+    ),
+    ";": frozenset(
+        "ArrayBuffer ArrayBufferView BigInt64Array BigUint64Array BufferSource ByteString "
+        "DOMString DataView Error Float16Array Float32Array Float64Array FrozenArray "
+        "Int16Array Int32Array Int8Array ObservableArray Promise SharedArrayBuffer "
+        "USVString Uint16Array Uint32Array Uint8Array Uint8ClampedArray any async "
+        "async_iterable async_sequence attribute bigint boolean byte callback const "
+        "constructor deleter dictionary double enum float getter inherit interface "
+        "iterable legacycaller long maplike namespace object octet partial readonly "
+        "record required sequence setlike setter short static stringifier symbol typedef "
+        "undefined unrestricted unsigned".split()
+    ),
+    "<": frozenset(
+        "ArrayBuffer ArrayBufferView BigInt64Array BigUint64Array BufferSource ByteString "
+        "DOMString DataView Error Float16Array Float32Array Float64Array FrozenArray "
+        "Int16Array Int32Array Int8Array ObservableArray Promise SharedArrayBuffer "
+        "USVString Uint16Array Uint32Array Uint8Array Uint8ClampedArray any "
+        "async_sequence bigint boolean byte double float long object octet record "
+        "sequence short symbol undefined unrestricted unsigned".split()
+    ),
+    "=": frozenset(
+        "ArrayBuffer ArrayBufferView BigInt64Array BigUint64Array BufferSource ByteString "
+        "DOMString DataView Error Float16Array Float32Array Float64Array FrozenArray "
+        "Infinity Int16Array Int32Array Int8Array NaN ObservableArray Promise "
+        "SharedArrayBuffer USVString Uint16Array Uint32Array Uint8Array Uint8ClampedArray "
+        "any async_sequence bigint boolean byte double false float long null object octet "
+        "record sequence short symbol true undefined unrestricted unsigned".split()
+    ),
+    ">": frozenset(["or"]),
+    "?": frozenset(["or"]),
+    "or": frozenset(
+        "ArrayBuffer ArrayBufferView BigInt64Array BigUint64Array BufferSource ByteString "
+        "DOMString DataView Error Float16Array Float32Array Float64Array FrozenArray "
+        "Int16Array Int32Array Int8Array ObservableArray Promise SharedArrayBuffer "
+        "USVString Uint16Array Uint32Array Uint8Array Uint8ClampedArray async_sequence "
+        "bigint boolean byte double float long object octet record sequence short symbol "
+        "undefined unrestricted unsigned".split()
+    ),
+    "optional": frozenset(
+        "ArrayBuffer ArrayBufferView BigInt64Array BigUint64Array BufferSource ByteString "
+        "DOMString DataView Error Float16Array Float32Array Float64Array FrozenArray "
+        "Int16Array Int32Array Int8Array ObservableArray Promise SharedArrayBuffer "
+        "USVString Uint16Array Uint32Array Uint8Array Uint8ClampedArray any "
+        "async_sequence bigint boolean byte double float long object octet record "
+        "sequence short symbol undefined unrestricted unsigned".split()
+    ),
+    "attribute": frozenset(
+        "ArrayBuffer ArrayBufferView BigInt64Array BigUint64Array BufferSource ByteString "
+        "DOMString DataView Error Float16Array Float32Array Float64Array FrozenArray "
+        "Int16Array Int32Array Int8Array ObservableArray Promise SharedArrayBuffer "
+        "USVString Uint16Array Uint32Array Uint8Array Uint8ClampedArray any "
+        "async_sequence bigint boolean byte double float long object octet record "
+        "sequence short symbol undefined unrestricted unsigned".split()
+    ),
+    "callback": frozenset(["interface"]),
+    "const": frozenset(
+        "bigint boolean byte double float long octet short unrestricted unsigned".split()
+    ),
+    "deleter": frozenset(
+        "ArrayBuffer ArrayBufferView BigInt64Array BigUint64Array BufferSource ByteString "
+        "DOMString DataView Error Float16Array Float32Array Float64Array FrozenArray "
+        "Int16Array Int32Array Int8Array ObservableArray Promise SharedArrayBuffer "
+        "USVString Uint16Array Uint32Array Uint8Array Uint8ClampedArray any "
+        "async_sequence bigint boolean byte double float long object octet record "
+        "sequence short symbol undefined unrestricted unsigned".split()
+    ),
+    "getter": frozenset(
+        "ArrayBuffer ArrayBufferView BigInt64Array BigUint64Array BufferSource ByteString "
+        "DOMString DataView Error Float16Array Float32Array Float64Array FrozenArray "
+        "Int16Array Int32Array Int8Array ObservableArray Promise SharedArrayBuffer "
+        "USVString Uint16Array Uint32Array Uint8Array Uint8ClampedArray any "
+        "async_sequence bigint boolean byte double float long object octet record "
+        "sequence short symbol undefined unrestricted unsigned".split()
+    ),
+    "interface": frozenset(["mixin"]),
+    "required": frozenset(
+        "ArrayBuffer ArrayBufferView BigInt64Array BigUint64Array BufferSource ByteString "
+        "DOMString DataView Error Float16Array Float32Array Float64Array FrozenArray "
+        "Int16Array Int32Array Int8Array ObservableArray Promise SharedArrayBuffer "
+        "USVString Uint16Array Uint32Array Uint8Array Uint8ClampedArray any "
+        "async_sequence bigint boolean byte double float long object octet record "
+        "sequence short symbol undefined unrestricted unsigned".split()
+    ),
+    "setter": frozenset(
+        "ArrayBuffer ArrayBufferView BigInt64Array BigUint64Array BufferSource ByteString "
+        "DOMString DataView Error Float16Array Float32Array Float64Array FrozenArray "
+        "Int16Array Int32Array Int8Array ObservableArray Promise SharedArrayBuffer "
+        "USVString Uint16Array Uint32Array Uint8Array Uint8ClampedArray any "
+        "async_sequence bigint boolean byte double float long object octet record "
+        "sequence short symbol undefined unrestricted unsigned".split()
+    ),
+    "static": frozenset(
+        "ArrayBuffer ArrayBufferView BigInt64Array BigUint64Array BufferSource ByteString "
+        "DOMString DataView Error Float16Array Float32Array Float64Array FrozenArray "
+        "Int16Array Int32Array Int8Array ObservableArray Promise SharedArrayBuffer "
+        "USVString Uint16Array Uint32Array Uint8Array Uint8ClampedArray any "
+        "async_sequence attribute bigint boolean byte deleter double float getter "
+        "legacycaller long object octet readonly record sequence setter short symbol "
+        "undefined unrestricted unsigned".split()
+    ),
+    "stringifier": frozenset(
+        "ArrayBuffer ArrayBufferView BigInt64Array BigUint64Array BufferSource ByteString "
+        "DOMString DataView Error Float16Array Float32Array Float64Array FrozenArray "
+        "Int16Array Int32Array Int8Array ObservableArray Promise SharedArrayBuffer "
+        "USVString Uint16Array Uint32Array Uint8Array Uint8ClampedArray any "
+        "async_sequence attribute bigint boolean byte deleter double float getter "
+        "legacycaller long object octet readonly record sequence setter short symbol "
+        "undefined unrestricted unsigned".split()
+    ),
+    "typedef": frozenset(
+        "ArrayBuffer ArrayBufferView BigInt64Array BigUint64Array BufferSource ByteString "
+        "DOMString DataView Error Float16Array Float32Array Float64Array FrozenArray "
+        "Int16Array Int32Array Int8Array ObservableArray Promise SharedArrayBuffer "
+        "USVString Uint16Array Uint32Array Uint8Array Uint8ClampedArray any "
+        "async_sequence bigint boolean byte double float long object octet record "
+        "sequence short symbol undefined unrestricted unsigned".split()
+    ),
+    "symbol": frozenset(["or"]),
+    "boolean": frozenset(["or"]),
+    "byte": frozenset(["or"]),
+    "double": frozenset(["or"]),
+    "float": frozenset(["or"]),
+    "long": frozenset(["long", "or"]),
+    "object": frozenset(["or"]),
+    "octet": frozenset(["or"]),
+    "short": frozenset(["or"]),
+    "undefined": frozenset(["or"]),
+    "legacycaller": frozenset(
+        "ArrayBuffer ArrayBufferView BigInt64Array BigUint64Array BufferSource ByteString "
+        "DOMString DataView Error Float16Array Float32Array Float64Array FrozenArray "
+        "Int16Array Int32Array Int8Array ObservableArray Promise SharedArrayBuffer "
+        "USVString Uint16Array Uint32Array Uint8Array Uint8ClampedArray any "
+        "async_sequence bigint boolean byte double float long object octet record "
+        "sequence short symbol undefined unrestricted unsigned".split()
+    ),
+    "ByteString": frozenset(["or"]),
+    "DOMString": frozenset(["or"]),
+    "USVString": frozenset(["or"]),
+    "ArrayBuffer": frozenset(["or"]),
+    "DataView": frozenset(["or"]),
+    "Int8Array": frozenset(["or"]),
+    "Int16Array": frozenset(["or"]),
+    "Int32Array": frozenset(["or"]),
+    "Uint8Array": frozenset(["or"]),
+    "Uint16Array": frozenset(["or"]),
+    "Uint32Array": frozenset(["or"]),
+    "Uint8ClampedArray": frozenset(["or"]),
+    "Float32Array": frozenset(["or"]),
+    "Float64Array": frozenset(["or"]),
+    "ArrayBufferView": frozenset(["or"]),
+    "BufferSource": frozenset(["or"]),
+    "Error": frozenset(["or"]),
+    "a": frozenset(["implements", "includes", "or"]),
+    "bigint": frozenset(["or"]),
+    "Float16Array": frozenset(["or"]),
+    "BigInt64Array": frozenset(["or"]),
+    "BigUint64Array": frozenset(["or"]),
+    "SharedArrayBuffer": frozenset(["or"]),
+    "///": frozenset(
+        "callback dictionary enum interface namespace partial typedef".split()
+    ),
 }

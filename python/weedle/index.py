@@ -3,8 +3,10 @@
 from __future__ import annotations
 
 from collections.abc import Mapping
-from typing import TYPE_CHECKING, Any, Dict, Iterator, List, Optional, Tuple, Union
+from typing import TYPE_CHECKING, Any, Dict, Iterator, List, Optional, Tuple, Union, overload
 
+from weedle import today
+from weedle._dialect import Dialect, grammar_of
 from weedle._values import Value
 from weedle.common import Identifier
 from weedle.definitions import Definition, Definitions
@@ -13,6 +15,12 @@ from weedle.names import Name, Role
 if TYPE_CHECKING:
     from weedle.argument import Argument
     from weedle.attribute import ExtendedAttribute
+
+    #: What is defined, and what stands with it, in either tree.
+    AnyDefinition = Union[Definition.Variants, today.Definition.Variants]
+    AnyDefinitions = Union[Definitions, today.Definitions]
+    AnyArgument = Union[Argument.Variants, today.Argument.Variants]
+    AnyAttribute = Union[ExtendedAttribute.Variants, today.ExtendedAttribute.Variants]
 
 __all__ = ["REFERENCES", "Entry", "Index", "Member", "kind_of", "members_of", "name_of"]
 
@@ -38,12 +46,12 @@ BUILTIN = frozenset(
 TYPES = ("type_", "return_type", "const_type")
 
 
-def kind_of(definition: Definition) -> str:
+def kind_of(definition: Union[Definition, today.Definition]) -> str:
     """What a definition is, as "partial interface" or "includes"."""
     return KINDS[definition.variant]
 
 
-def name_of(definition: Definition.Variants) -> Identifier:
+def name_of(definition: AnyDefinition) -> Identifier:
     """The name of a definition; of a statement that of what includes or implements."""
     inner: Any = definition.value
     found: Identifier = getattr(inner, "identifier", None) or inner.lhs_identifier
@@ -55,7 +63,7 @@ class Member:
 
     __slots__ = ("value", "definition")
 
-    def __init__(self, value: Any, definition: Definition.Variants) -> None:
+    def __init__(self, value: Any, definition: AnyDefinition) -> None:
         #: The member, as `InterfaceMember.Attribute` or `DictionaryMember`.
         self.value = value
         #: The definition that it is in, a part or a mixin perhaps.
@@ -105,20 +113,24 @@ class Member:
     @property
     def _generic(self) -> Tuple[Any, Any]:
         generics = getattr(self.inner, "generics", None)
+        if isinstance(generics, today.Iterated):
+            second = generics.second
+            return (generics.type_, second.type_) if second else (None, generics.type_)
         body = generics.body if generics else None
         return (body[0], body[2]) if isinstance(body, tuple) else (None, body)
 
     @property
-    def arguments(self) -> List[Argument.Variants]:
+    def arguments(self) -> List[AnyArgument]:
         """The arguments of an operation, a constructor or an asynchronous iteration."""
         args = getattr(self.inner, "args", None)
         return list(args.body) if args else []
 
     @property
-    def attributes(self) -> List[ExtendedAttribute.Variants]:
-        """The extended attributes in front of it."""
-        found = getattr(self.inner, "attributes", None)
-        return list(found.body) if found else []
+    def attributes(self) -> List[AnyAttribute]:
+        """The extended attributes in front of it; of today's tree those of all lists."""
+        found = getattr(self.inner, "attributes", None) or []
+        lists = found if isinstance(found, list) else [found]
+        return [it for some in lists for it in some.body]
 
     @property
     def is_static(self) -> bool:
@@ -144,14 +156,14 @@ class Entry:
         #: The name.
         self.name = name
         #: All definitions of it, in their order: more than one is a slip.
-        self.definitions: List[Definition.Variants] = []
+        self.definitions: List[AnyDefinition] = []
         #: Its parts, as `partial interface A {};`.
-        self.parts: List[Definition.Variants] = []
+        self.parts: List[AnyDefinition] = []
         #: The statements that include mixins into it, as `A includes M;`.
         self.statements: List[Any] = []
 
     @property
-    def definition(self) -> Optional[Definition.Variants]:
+    def definition(self) -> Optional[AnyDefinition]:
         """Its first definition, if it has one."""
         return self.definitions[0] if self.definitions else None
 
@@ -185,7 +197,7 @@ class Entry:
             name = above.inherited
         return found
 
-    def bodies(self) -> Iterator[Definition.Variants]:
+    def bodies(self) -> Iterator[AnyDefinition]:
         """Its definition and its parts, and those of its mixins."""
         for it in (self, *self.mixins):
             yield from it.definitions[:1]
@@ -199,7 +211,7 @@ class Entry:
         return f"<{self.kind or 'undefined'} {self.name}>"
 
 
-def members_of(definition: Definition.Variants) -> List[Member]:
+def members_of(definition: AnyDefinition) -> List[Member]:
     """The members of a definition, of whatever kind; of one without members none."""
     inner: Any = definition.value
     body = getattr(inner, "members", None)
@@ -217,20 +229,48 @@ class Index(Mapping[str, Entry]):
     ['x', 'f']
     >>> [(name.text, index.file_of(name.value)) for name in index.undefined()]
     [('EventTarget', 'dom.webidl')]
+
+    With `dialect="today"` texts are read by the rules of today's WebIDL, where no other dialect is said of
+    one of them.
     """
 
-    def __init__(self) -> None:
+    def __init__(self, *, dialect: Dialect = "weedle2") -> None:
+        #: The dialect of texts of which none is said.
+        self.dialect: Dialect = grammar_of(dialect).name
         self._entries: Dict[str, Entry] = {}
         self._files: Dict[int, str] = {}
         #: The lists that were added, in their order.
-        self.texts: List[Definitions] = []
+        self.texts: List[AnyDefinitions] = []
         self._names: Optional[Dict[str, List[Name]]] = None
 
-    def add(self, text: Union[str, bytes, Definitions], file: str = "") -> Definitions:
-        """Takes the definitions of a text, which `file` names. It raises what `weedle.parse` raises."""
+    @overload
+    def add(
+        self, text: Definitions, file: str = "", *, dialect: Optional[Dialect] = None
+    ) -> Definitions: ...
+    @overload
+    def add(
+        self, text: today.Definitions, file: str = "", *, dialect: Optional[Dialect] = None
+    ) -> today.Definitions: ...
+    @overload
+    def add(
+        self, text: Union[str, bytes], file: str = "", *, dialect: Optional[Dialect] = None
+    ) -> Any: ...
+
+    def add(
+        self, text: Union[str, bytes, AnyDefinitions], file: str = "", *,
+        dialect: Optional[Dialect] = None
+    ) -> Any:
+        """Takes the definitions of a text, which `file` names. It raises what `weedle.parse` raises.
+
+        A text is read by this dialect, or else by that of the index. Definitions that were read before stay
+        what they are.
+        """
         from weedle import parse  # it is above
 
-        definitions = text if isinstance(text, Definitions) else parse(text)
+        if isinstance(text, (Definitions, today.Definitions)):
+            definitions: AnyDefinitions = text
+        else:
+            definitions = parse(text, dialect=self.dialect if dialect is None else dialect)
         self.texts.append(definitions)
         self._files[id(definitions._tree)] = file
         self._names = None

@@ -1,12 +1,13 @@
 """Checks WebIDL files together by rules that the grammar doesn't have.
 
-    weedle lint [--json] [--ignore CODE].. [--known FILE].. FILE..
+    weedle lint [--json] [--ignore CODE].. [--known FILE].. [--today] FILE..
 
 `python3 -m weedle lint` is the same. Each problem has a line: file, line, column, its code, and
 why; with `--json` it is an object. A comment `// weedle-ignore: CODE` leaves out the problems of its
 line, or of the next one where it is alone; without a code all of them. A FILE of `--known` has
-names of extended attributes. The status is 0 where there is no problem, 1 where there is one, and 2
-where a file can't be read or the arguments are others.
+names of extended attributes. With `--today` files are read by the rules of today's WebIDL.
+The status is 0 where there is no problem, 1 where there is one, and 2 where a file can't be read or
+the arguments are others.
 """
 
 from __future__ import annotations
@@ -22,14 +23,14 @@ from typing import (
 )
 
 import weedle
-from weedle.argument import Argument
+from weedle import argument, definitions, today
+from weedle._dialect import Dialect
+from weedle._flat_types import Types
 from weedle.common import Identifier, Parenthesized
-from weedle.definitions import Definition, EnumDefinition
+from weedle.errors import READ_TODAY
 from weedle.index import BUILTIN, Entry, Index, Member, kind_of, name_of
 from weedle.names import Role
-from weedle.types import (
-    AttributedNonAnyType, AttributedType, NonAnyType, ReturnType, SingleType, Type, UnionMemberType,
-)
+from weedle.types import Type
 
 #: The extended attributes of Web IDL, HTML and Service Workers.
 KNOWN = frozenset("""
@@ -40,26 +41,10 @@ KNOWN = frozenset("""
     Reflect Replaceable SameObject SecureContext Serializable StringContext Transferable Unscopable
 """.split())
 IGNORED = re.compile(r"weedle-ignore(?::\s*([a-z-]+(?:\s*,\s*[a-z-]+)*))?")
-# What a type is for the rules of which types are distinguishable; buffers and errors are interfaces.
-CATEGORIES = {
-    **dict.fromkeys(("Integer", "FloatingPoint", "Byte", "Octet"), "numeric"),
-    **dict.fromkeys(("ByteString", "DOMString", "USVString"), "string"),
-    **dict.fromkeys(("Sequence", "FrozenArrayType"), "sequence"),
-    "Boolean": "boolean", "Object": "object", "Symbol": "symbol", "RecordType": "dictionary",
-    "Promise": "promise",
-}
-NAMED = {
-    **{it: it for it in ("interface", "dictionary", "callback", "bigint", "undefined")},
-    "enum": "string", "callback interface": "dictionary",
-}
-VIEWS = """DataView Int8Array Int16Array Int32Array Uint8Array Uint16Array Uint32Array
-    Uint8ClampedArray Float16Array Float32Array Float64Array BigInt64Array BigUint64Array""".split()
-BUFFERS = {"ArrayBufferView": VIEWS, "BufferSource": ["ArrayBuffer", *VIEWS]}
-# Pairs of different categories that aren't distinguishable; `any` and promises are from nothing.
-ALIKE = [{"undefined", "dictionary"}] + [
-    {"object", it} for it in ("interface", "callback", "dictionary", "sequence")
-]
-WRAPPERS = (Type.Single, SingleType.NonAny, UnionMemberType.Single, ReturnType.Type)
+# What the rules look for, of both trees.
+ENUMS = (definitions.EnumDefinition, today.EnumDefinition)
+ARGUMENTS = (argument.Argument, today.Argument)
+VARIADIC = argument.Argument.Variadic
 
 
 class Problem(NamedTuple):
@@ -75,75 +60,6 @@ class Problem(NamedTuple):
         return f"{self.file}:{self.line}:{self.column}: {self.code}: {self.message}"
 
 
-class Flat(NamedTuple):
-    """A type that is no union: what it is, and its name; of a `?` the category is `null`."""
-
-    category: str
-    name: str
-
-
-class Types:
-    """What types are, by the definitions of an index."""
-
-    def __init__(self, index: Index) -> None:
-        self.index = index
-
-    def flat(self, it: Any, seen: Tuple[str, ...] = ()) -> Iterator[Flat]:
-        """The types that a type may be, without unions, names for types and attributes."""
-        if isinstance(it, (AttributedType, AttributedNonAnyType)):
-            yield from self.flat(it.type_, seen)
-        elif isinstance(it, WRAPPERS):
-            yield from self.flat(it.value, seen)
-        elif isinstance(it, (Type.Union, UnionMemberType.Union)):
-            for member in it.value.type_.body:
-                yield from self.flat(member, seen)
-        elif isinstance(it, NonAnyType.Identifier):
-            yield from self.named(it.value.type_.value, seen)
-        elif isinstance(it, NonAnyType):
-            names = BUFFERS.get(it.variant, [it.text.rstrip("? ")])
-            yield from (Flat(CATEGORIES.get(it.variant, "interface"), name) for name in names)
-        elif isinstance(it, SingleType.Any):
-            yield Flat("any", "any")
-        if getattr(getattr(it, "value", None), "q_mark", None):
-            yield Flat("null", "?")
-
-    def named(self, name: str, seen: Tuple[str, ...]) -> Iterator[Flat]:
-        """The same of a name."""
-        entry = self.index.get(name)
-        if entry and isinstance(entry.definition, Definition.Typedef):
-            if name not in seen:
-                yield from self.flat(entry.definition.value.type_, (*seen, name))
-        elif entry and entry.kind:
-            yield Flat(NAMED.get(entry.kind, "unknown"), name)
-        else:
-            yield Flat(NAMED.get(name, "interface" if name in BUILTIN else "unknown"), name)
-
-    def are_distinguishable(self, one: Flat, other: Flat) -> bool:
-        """Whether a value says which of two types it has; of an unknown one it is taken to."""
-        pair = {one.category, other.category}
-        if "unknown" in pair:
-            return one != other
-        if pair & {"any", "promise"} or pair == {"null", "dictionary"}:
-            return False
-        if pair == {"interface"}:
-            return not (self.is_below(one.name, other.name) or self.is_below(other.name, one.name))
-        return len(pair) == 2 and pair not in ALIKE
-
-    def is_below(self, name: str, other: str) -> bool:
-        """Whether an interface is another, or inherits from it."""
-        entry = self.index.get(name)
-        return name == other or other in [it.name for it in (entry.ancestors() if entry else ())]
-
-    def are_told_apart(self, one: Any, other: Any) -> bool:
-        """Whether a value says which of two types it has, which may be unions."""
-        return all(self.are_distinguishable(a, b) for a in self.flat(one) for b in self.flat(other))
-
-    def dictionaries(self, it: Any) -> List[Entry]:
-        """The dictionaries that a type may be."""
-        found = [self.index.get(flat.name) for flat in self.flat(it)]
-        return [entry for entry in found if entry and entry.kind == "dictionary"]
-
-
 class Linter:
     """Checks the definitions of an index."""
 
@@ -151,12 +67,13 @@ class Linter:
         self.index, self.types, self.known = index, Types(index), known
         self.problems: List[Problem] = []
 
-    def read(self, name: str, data: bytes) -> weedle.Definitions:
+    def read(self, name: str, data: bytes) -> Any:
         """Takes the definitions of a file; of one that is refused those that are read."""
         try:
             return self.index.add(data, name)
         except weedle.Refused as fault:
             why = f"expected {fault.expected}" + f" ({fault.hint})" * bool(fault.hint)
+            why += f"; {READ_TODAY}: --today" * fault.is_read_today
             self.problems.append(Problem(name, fault.line, fault.column, "syntax", why))
             front = data[:fault.start]
             return self.index.add(front if front.strip() else b"", name)
@@ -204,7 +121,7 @@ class Linter:
         elif kind != wanted:
             self.say(name, "wrong-kind", f"{name.value} is no {wanted}, but {a(kind)}")
 
-    def check_definition(self, definition: Definition.Variants) -> None:
+    def check_definition(self, definition: Any) -> None:
         """Checks what one definition says."""
         inner: Any = definition.value
         kind = kind_of(definition)
@@ -212,12 +129,13 @@ class Linter:
             self.check_part(inner.identifier, kind[len("partial "):])
         if getattr(inner, "inheritance", None):
             self.check_inheritance(self.index[inner.identifier.value], inner, kind)
-        for enum in definition.find(EnumDefinition):
-            self.check_values(enum)
-        for union in definition.find(Type.Union):
-            self.check_union(union)
+        if isinstance(inner, ENUMS):
+            self.check_values(inner)
+        for kind_of_union in (Type.Union, today.Type.Union):
+            for union in definition.find(kind_of_union):
+                self.check_union(union)
         for it in definition.find(Parenthesized):
-            if it.body.list and isinstance(it.body.list[0], Argument):
+            if it.body.list and isinstance(it.body.list[0], ARGUMENTS):
                 # what is called by scripts; a callback is called by the platform
                 self.check_arguments(it.body.list, not kind.startswith("callback"))
 
@@ -240,7 +158,7 @@ class Linter:
             names = " : ".join([it.name for it in chain] + [entry.name])
             self.say(name, "inheritance-cycle", names)
 
-    def check_values(self, enum: EnumDefinition) -> None:
+    def check_values(self, enum: Any) -> None:
         seen: Set[str] = set()
         for it in enum.values.body:
             if it.value.value in seen:
@@ -248,7 +166,7 @@ class Linter:
                 self.say(it, "duplicate-enum-value", f"{name} has {it.value.text} already")
             seen.add(it.value.value)
 
-    def check_union(self, union: Type.Union) -> None:
+    def check_union(self, union: Any) -> None:
         for one, other in combinations(self.types.flat(union), 2):
             if one.category == other.category == "null":
                 self.say(union, "nullable-twice", "more than one of the union's types is nullable")
@@ -258,23 +176,27 @@ class Linter:
                 said = f"{one.name} and {other.name} aren't distinguishable"
                 self.say(union, "indistinguishable-union", said)
 
-    def check_arguments(self, arguments: Sequence[Argument.Variants], is_called: bool) -> None:
+    def check_arguments(self, arguments: Sequence[Any], is_called: bool) -> None:
         is_rest_optional = True
-        for it in (it.value for it in reversed(arguments) if isinstance(it, Argument.Single)):
-            name = it.identifier
-            if it.optional and not is_rest_optional:
+        for argument_ in (it for it in reversed(arguments) if not is_variadic(it)):
+            it = argument_.value
+            name, is_left_out = it.identifier, not is_needed(argument_)
+            if is_left_out and not is_rest_optional:
                 said = f"the argument {name.value} is optional, and one behind it isn't"
                 self.say(name, "required-behind-optional", said)
             if is_called and self.types.dictionaries(it.type_):
-                self.check_dictionary_argument(it, is_rest_optional)
-            is_rest_optional = is_rest_optional and bool(it.optional)
+                self.check_dictionary_argument(it, is_rest_optional, is_left_out)
+            is_rest_optional = is_rest_optional and is_left_out
 
-    def check_dictionary_argument(self, it: Any, is_rest_optional: bool) -> None:
+    def check_dictionary_argument(
+        self, it: Any, is_rest_optional: bool, is_left_out: bool,
+    ) -> None:
         name, wanted = it.identifier, ""
         if any(flat.category == "null" for flat in self.types.flat(it.type_)):
             wanted = "is nullable"
         elif is_rest_optional and all(map(is_optional, self.types.dictionaries(it.type_))):
-            wanted = "" if it.default else "needs the default {}" if it.optional else "must be optional"
+            lacks = "needs the default {}" if is_left_out else "must be optional"
+            wanted = "" if is_left_out and it.default else lacks
         if wanted:
             self.say(name, "dictionary-argument", f"the dictionary argument {name.value} {wanted}")
 
@@ -317,16 +239,21 @@ def a(kind: str) -> str:
     return f"an {kind}" if kind[0] in "aeiou" else f"a {kind}"
 
 
-def is_needed(argument: Argument.Variants) -> bool:
+def is_variadic(it: Any) -> bool:
+    """Whether a call may give any number of this argument."""
+    return isinstance(it, VARIADIC) or bool(getattr(it.value, "ellipsis", None))
+
+
+def is_needed(it: Any) -> bool:
     """Whether a call has to give this argument."""
-    return isinstance(argument, Argument.Single) and not argument.value.optional
+    return not is_variadic(it) and not getattr(it.value, "optional", None)
 
 
 def types_of(arguments: Sequence[Any], count: int) -> List[Any]:
     """The types of so many arguments of a call, or of fewer where it may not have so many."""
     types = [it.value.type_ for it in arguments]
-    is_variadic = bool(arguments) and isinstance(arguments[-1], Argument.Variadic)
-    return (types + types[-1:] * count * is_variadic)[:count]
+    is_last_variadic = bool(arguments) and is_variadic(arguments[-1])
+    return (types + types[-1:] * count * is_last_variadic)[:count]
 
 
 def is_optional(dictionary: Entry) -> bool:
@@ -335,7 +262,7 @@ def is_optional(dictionary: Entry) -> bool:
     return not any(member.inner.required for it in all_ for member in it.members())
 
 
-def ignored(text: weedle.Definitions) -> Iterator[Tuple[int, str]]:
+def ignored(text: Any) -> Iterator[Tuple[int, str]]:
     """The lines of which problems are left out, each with a code, or with an empty one for all."""
     lines = text.text.split("\n")
     for comment in text.syntax.comments:
@@ -347,9 +274,11 @@ def ignored(text: weedle.Definitions) -> Iterator[Tuple[int, str]]:
             yield from ((at, code) for code in re.split(r"\s*,\s*", said[1] or ""))
 
 
-def lint(files: Dict[str, bytes], known: AbstractSet[str] = KNOWN) -> List[Problem]:
+def lint(
+    files: Dict[str, bytes], known: AbstractSet[str] = KNOWN, *, dialect: Dialect = "weedle2"
+) -> List[Problem]:
     """The problems of some files, by their names, in the order of the files and of their lines."""
-    linter = Linter(Index(), known)
+    linter = Linter(Index(dialect=dialect), known)
     left_out: Set[Tuple[str, int, str]] = set()
     for name, data in files.items():
         text = linter.read(name, data)
@@ -383,6 +312,10 @@ def main(words: Sequence[str], out: BinaryIO) -> int:
         ("--known", "FILE", "names of extended attributes that are known too"),
     ):
         parser.add_argument(option, metavar=name, action="append", default=[], help=what)
+    parser.add_argument(
+        "--today", dest="dialect", action="store_const", const="today", default="weedle2",
+        help="read by the rules of today's WebIDL, and not by those of weedle2",
+    )
     parser.add_argument("files", metavar="FILE", nargs="+", help="files that are checked together")
     wanted = parser.parse_args(words)
     try:
@@ -391,7 +324,8 @@ def main(words: Sequence[str], out: BinaryIO) -> int:
     except (OSError, UnicodeDecodeError) as fault:
         print(f"weedle lint: {fault}", file=sys.stderr)
         return 2
-    problems = [it for it in lint(files, known) if it.code not in wanted.ignore]
+    found = lint(files, known, dialect=wanted.dialect)
+    problems = [it for it in found if it.code not in wanted.ignore]
     for it in problems:
         said = json.dumps(it._asdict()) if wanted.json else str(it)
         out.write(f"{said}\n".encode(errors="surrogateescape"))

@@ -4,6 +4,7 @@ from __future__ import annotations
 
 from typing import Any, Iterator, List, Optional, Union
 
+from weedle._dialect import Dialect, grammar_of
 from weedle._making import MAKE
 from weedle._reading import tree_of
 from weedle._text import Position, Span
@@ -97,16 +98,20 @@ class Node:
         return hash((id(self._tree), self._node))
 
 
-def syntax(text: Union[str, bytes], rule: Optional[str] = None) -> Node:
+def syntax(
+    text: Union[str, bytes], rule: Optional[str] = None, *, dialect: Dialect = "weedle2"
+) -> Node:
     """The node of a whole text, whose children are its definitions.
 
     >>> [node.text for node in syntax("Request includes Body;").find("identifier_text")]
     ['Request', 'Body']
 
     With the name of a rule, as "type", it is the node of that rule at the front of the text, whatever
-    follows: of "long? x" the node of `long? `. It raises what `weedle.parse` raises, ValueError
-    where no rule has that name, and NotImplementedError where the shared object is too old for it.
+    follows: of "long? x" the node of `long? `. With `dialect="today"` the whole text is read by the
+    rules of today's WebIDL, whose names begin with `today_`; a rule with a name is the same in both.
+    It raises what `weedle.parse` raises, and ValueError where no rule has that name.
     """
+    grammar = grammar_of(dialect)
     if rule is not None and rule not in NUMBERS:
         raise ValueError(f"no rule has the name {rule!r}")
-    return Node(tree_of(text, None if rule is None else NUMBERS[rule]), 0)
+    return Node(tree_of(text, None if rule is None else NUMBERS[rule], grammar), 0)

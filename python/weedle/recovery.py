@@ -5,17 +5,16 @@ from __future__ import annotations
 from functools import cached_property
 from typing import Any, List, Optional, Union
 
+from weedle._dialect import Dialect, grammar_of
 from weedle._library import Part as Numbers
 from weedle._reading import forest_of
 from weedle._text import Position, Span
 from weedle._tree import Forest
 from weedle.errors import PartRefused, Refused
-from weedle.grammar import NUMBERS, RULES
+from weedle.grammar import RULES
 from weedle.nodes import Node
 
 __all__ = ["Part", "Recovered", "recover"]
-
-DEFINITION = NUMBERS["definition"]
 
 
 class Part:
@@ -33,6 +32,20 @@ class Part:
     def is_read(self) -> bool:
         """Whether it is read."""
         return self._node is not None
+
+    @property
+    def is_piece(self) -> bool:
+        """Whether its rule is what a text is a list of: a definition, or of today's grammar a piece."""
+        return self._numbers.rule == self._tree.grammar.item or self.is_definition
+
+    @property
+    def is_definition(self) -> bool:
+        """Whether it is a whole definition."""
+        definition, node = self._tree.grammar.definition, self._node
+        if self._numbers.rule == definition or node is None:
+            return self.is_read and self._numbers.rule == definition
+        is_above = self._numbers.rule == self._tree.grammar.item
+        return is_above and self._tree.rules[node + 1] == definition
 
     @property
     def span(self) -> Span:
@@ -67,7 +80,9 @@ class Part:
     @cached_property
     def refusal(self) -> Optional[Refused]:
         """Why it is unread, this part alone; None where it is read."""
-        return None if self.is_read else PartRefused(self._tree.text, self._numbers)
+        if self.is_read:
+            return None
+        return PartRefused(self._tree.text, self._numbers, self._tree.grammar.name)
 
     def __repr__(self) -> str:
         start, end = self.span
@@ -96,14 +111,14 @@ class Recovered:
     @property
     def definitions(self) -> List[Part]:
         """The parts that are whole definitions."""
-        return [it for it in self.parts if it.is_read and it._numbers.rule == DEFINITION]
+        return [it for it in self.parts if it.is_definition]
 
     def __repr__(self) -> str:
         unread = sum(not it.is_read for it in self.parts)
         return f"<{len(self.parts)} parts, {unread} unread>"
 
 
-def recover(text: Union[str, bytes]) -> Recovered:
+def recover(text: Union[str, bytes], *, dialect: Dialect = "weedle2") -> Recovered:
     """The parts of a text, read or unread, whatever errors it has.
 
     >>> for it in recover("typedef long; enum E { 'a' };").errors:
@@ -113,5 +128,9 @@ def recover(text: Union[str, bytes]) -> Recovered:
 
     Of a text that is read whole each part is a definition. It raises what `weedle.parse` raises, but
     never `Refused`. Why a part is unread is found when it is asked for.
+
+    With `dialect="today"` the rules are those of today's WebIDL. Of a text that is read whole each part
+    is then a definition, or a docstring, a comment or whitespace that none follows. It raises
+    RecursionError of a text with errors that nests too deep.
     """
-    return Recovered(*forest_of(text))
+    return Recovered(*forest_of(text, grammar_of(dialect)))

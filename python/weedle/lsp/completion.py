@@ -4,6 +4,7 @@ from __future__ import annotations
 
 from typing import AbstractSet, Dict, FrozenSet, Iterator, List, Optional, Tuple
 
+from weedle._dialect import Dialect
 from weedle._text import Span
 from weedle.index import BUILTIN, kind_of
 from weedle.lint import KNOWN
@@ -51,17 +52,17 @@ def completions(workspace: Workspace, source: Source, place: int) -> List[Json]:
     range_ = source.range(word)
     return [
         {**it, "textEdit": {"range": range_, "newText": it["label"]}}
-        for it in items(workspace, front) if prefix in it["label"].lower()
+        for it in items(workspace, front, source.dialect) if prefix in it["label"].lower()
     ]
 
 
-def items(workspace: Workspace, front: Front) -> Iterator[Json]:
+def items(workspace: Workspace, front: Front, dialect: Dialect = "weedle2") -> Iterator[Json]:
     """What goes on behind a front, without places."""
     attribute = place_in_brackets(front.words)
     if attribute is not None:
         yield from attribute_items(workspace, attribute)
         return
-    found = expected(front)
+    found = expected(front, dialect)
     if found is None:
         return
     # `enum includes A;` is read, and isn't what one writes

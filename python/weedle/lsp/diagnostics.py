@@ -6,6 +6,7 @@ import re
 from typing import List, Optional, Tuple
 
 from weedle._text import Span
+from weedle.errors import READ_TODAY
 from weedle.lsp.protocol import Json, Severity
 from weedle.lsp.reading import Hint, Problem
 from weedle.lsp.sources import Source
@@ -19,6 +20,8 @@ EXTRA = re.compile(r"no `(?P<old>[^`]+)` here")
 IN_FRONT = re.compile(r"`(?P<new>[^`]+)` in front of `(?P<old>[^`]+)`\?")
 # So many errors of a text are told: each takes up to a millisecond.
 MOST = 100
+# How a text is read by today's rules: the setting of a folder.
+IN_SETTINGS = '"weedle.dialect": "today"'
 NO_DOCSTRING, BYTE_ORDER_MARK = "no docstring here", "a byte order mark"
 # Lines of a docstring, and what ends a body.
 DOC_LINES = re.compile(rb"///[^\n]*(?:\n[ \t]*///[^\n]*)*")
@@ -42,6 +45,14 @@ def unchecked(fault: Exception) -> Json:
 
 
 def diagnostic(source: Source, problem: Problem) -> Json:
+    """A syntax error, which says last that today's rules read the text, if they alone do."""
+    found = error(source, problem)
+    if problem.is_read_today:
+        found["message"] += f"\n{READ_TODAY}: {IN_SETTINGS}"
+    return found
+
+
+def error(source: Source, problem: Problem) -> Json:
     """A syntax error. It is where the hint is, if there is one, and else where reading ends."""
     place, hint = problem.place, problem.hint
     found: Json = {

@@ -72,6 +72,12 @@ def folders_changed(session: Session, params: Json) -> None:
     added = [path_of(it["uri"]) for it in event.get("added") or []]
     workspace.folders = [it for it in workspace.folders if it not in removed] + added
     workspace.forget()
+    session.wants_settings = session.has_settings
+
+
+def settings_changed(session: Session, params: Json) -> None:
+    """Settings of the editor were changed."""
+    session.settings_changed(params.get("settings"))
 
 
 def code_action(session: Session, params: Json) -> List[Json]:
@@ -197,6 +203,7 @@ NOTIFICATIONS: Dict[str, Notification] = {
     "textDocument/didClose": did_close,
     "textDocument/didOpen": did_open,
     "textDocument/didSave": files_changed,
+    "workspace/didChangeConfiguration": settings_changed,
     "workspace/didChangeWatchedFiles": files_changed,
     "workspace/didChangeWorkspaceFolders": folders_changed,
 }

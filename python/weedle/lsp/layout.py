@@ -53,7 +53,7 @@ def runs(source: Source, wanted: Span) -> Iterator[Span]:
 def edits(source: Source, span: Span) -> List[Json]:
     """The changes that format a part of a text, which is some definitions."""
     before = source.data[span.start:span.end]
-    after = laid_out(before)
+    after = laid_out(before, dialect=source.dialect)
     if span.end < len(source.data):
         after = after.rstrip(b"\r\n")
     return [

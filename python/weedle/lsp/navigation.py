@@ -10,7 +10,7 @@ from weedle._tree import Tree
 from weedle.edits import DEFINING, RENAMED
 from weedle.grammar import NUMBERS
 from weedle.index import kind_of, members_of
-from weedle.lsp.outline import KINDS, STATEMENTS, one_line, words_start
+from weedle.lsp.outline import KINDS, STATEMENTS, declared, one_line, whole_of, words_start
 from weedle.lsp.protocol import HighlightKind, Json
 from weedle.lsp.sources import Source
 from weedle.lsp.workspace import Document, Workspace
@@ -23,8 +23,10 @@ PARTS = frozenset([
 ])
 #: Names that speak of something that is defined elsewhere.
 SPEAKING = RENAMED - DEFINING | {Role.EXTENDED_ATTRIBUTE}
-ARGUMENTS = frozenset([NUMBERS["single_argument"], NUMBERS["variadic_argument"]])
-ENUM = NUMBERS["enum_definition"]
+ARGUMENTS = frozenset(NUMBERS[name] for name in (
+    "single_argument", "variadic_argument", "today_optional_argument", "today_required_argument",
+))
+ENUMS = frozenset(NUMBERS[name] for name in ("enum_definition", "today_enum"))
 BODIES = frozenset(number for name, number in NUMBERS.items() if name.startswith("braced_"))
 # A definition without members is shown whole, up to so many characters.
 LONGEST = 600
@@ -178,9 +180,9 @@ def code(text: str) -> str:
 
 def head(tree: Tree, node: int) -> str:
     """A definition up to its body, or all of what has none, without extended attributes."""
-    below = node if tree.rules[node] in KINDS else node + 1
+    below = declared(tree, node)
     span = Span(words_start(tree, below), tree.span(below).end)
-    if tree.rules[below] == ENUM and span.end - span.start <= LONGEST:
+    if tree.rules[below] in ENUMS and span.end - span.start <= LONGEST:
         return tree.text.slice(span)
     bodies = (it for it in tree.children(below) if tree.rules[it] in BODIES)
     body = next(bodies, None)
@@ -209,5 +211,5 @@ def member_said(tree: Tree, name: Name) -> List[str]:
     while above >= 0 and tree.rules[above] not in KINDS:
         above = tree.above(above)
     outer = head(tree, above) if above >= 0 else ""
-    doc = "" if is_argument else made(tree, node).doc
+    doc = "" if is_argument else made(tree, whole_of(tree, node)).doc
     return [it for it in (code(words), doc, f"of `{outer.rstrip(';')}`" if outer else "") if it]

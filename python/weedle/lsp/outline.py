@@ -4,6 +4,7 @@ from __future__ import annotations
 
 from typing import Dict, Iterator, List, NamedTuple, Optional, Tuple
 
+from weedle._making import FACTORED, chosen
 from weedle._text import Span
 from weedle._tree import Tree
 from weedle.grammar import NUMBERS
@@ -28,6 +29,20 @@ DEFINITIONS: Dict[str, Tuple[Kind, str]] = {
     "typedef_definition": (Kind.TYPE_PARAMETER, "typedef"),
     "includes_statement_definition": (Kind.INTERFACE, "includes"),
     "implements_definition": (Kind.INTERFACE, "implements"),
+    "today_callback": (Kind.FUNCTION, "callback"),
+    "today_callback_interface": (Kind.INTERFACE, "callback interface"),
+    "today_interface": (Kind.INTERFACE, "interface"),
+    "today_mixin": (Kind.CLASS, "interface mixin"),
+    "today_namespace": (Kind.NAMESPACE, "namespace"),
+    "today_dictionary": (Kind.STRUCT, "dictionary"),
+    "today_partial_interface": (Kind.INTERFACE, "partial interface"),
+    "today_partial_mixin": (Kind.CLASS, "partial interface mixin"),
+    "today_partial_dictionary": (Kind.STRUCT, "partial dictionary"),
+    "today_partial_namespace": (Kind.NAMESPACE, "partial namespace"),
+    "today_enum": (Kind.ENUM, "enum"),
+    "today_typedef": (Kind.TYPE_PARAMETER, "typedef"),
+    "today_includes": (Kind.INTERFACE, "includes"),
+    "today_implements": (Kind.INTERFACE, "implements"),
 }
 MEMBERS: Dict[str, Kind] = {
     "const_member": Kind.CONSTANT, "dictionary_member": Kind.FIELD,
@@ -38,6 +53,14 @@ MEMBERS: Dict[str, Kind] = {
     "async_iterable_interface_member": Kind.METHOD, "maplike_interface_member": Kind.METHOD,
     "setlike_interface_member": Kind.METHOD, "stringifier_member": Kind.METHOD,
     "enum_variant": Kind.ENUM_MEMBER,
+    "today_const": Kind.CONSTANT, "today_dictionary_member": Kind.FIELD,
+    "today_attribute_member": Kind.PROPERTY, "today_mixin_attribute": Kind.PROPERTY,
+    "today_namespace_attribute": Kind.PROPERTY, "today_operation": Kind.METHOD,
+    "today_mixin_operation": Kind.METHOD, "today_namespace_operation": Kind.METHOD,
+    "today_constructor": Kind.CONSTRUCTOR, "today_iterable": Kind.METHOD,
+    "today_async_iterable": Kind.METHOD, "today_maplike": Kind.METHOD,
+    "today_setlike": Kind.METHOD, "today_stringifier": Kind.METHOD,
+    "today_enum_value": Kind.ENUM_MEMBER,
 }
 KINDS: Dict[int, Tuple[Kind, str]] = {
     **{NUMBERS[name]: it for name, it in DEFINITIONS.items()},
@@ -47,9 +70,9 @@ WORDS: Dict[str, Kind] = {word: kind for kind, word in DEFINITIONS.values()}
 NO_KIND: Tuple[Optional[Kind], str] = None, ""
 # What is in front of the words of a definition or a member.
 FRONTS = frozenset(NUMBERS[it] for it in (
-    "opt_docstring", "opt_extended_attribute_list", "trivia",
+    "opt_docstring", "opt_extended_attribute_list", "trivia", "today_docs", "today_attribute_lists",
 ))
-IDENTIFIER, NAME, WHOLE = NUMBERS["identifier"], NUMBERS["opt_identifier"], NUMBERS["definition"]
+IDENTIFIER, NAME = NUMBERS["identifier"], NUMBERS["opt_identifier"]
 STATEMENTS = frozenset(["includes", "implements"])
 # A symbol's name that has more characters is cut, and of a folder no more are told at once.
 LONGEST, MOST = 80, 1000
@@ -98,7 +121,7 @@ def broken_symbol(tree: Tree, it: Broken) -> Symbol:
 
 def symbol(tree: Tree, node: int, kind: Kind, word: str, above: int) -> Symbol:
     """The definition or the member of a node."""
-    span, children = tree.span(node), tree.children(node)
+    span, children = tree.span(whole_of(tree, node)), tree.children(node)
     words, name = Span(start_of(tree, children), span.end), name_among(tree, children)
     if name is None or word in STATEMENTS:
         said = one_line(tree, words).rstrip(";").rstrip()
@@ -108,6 +131,20 @@ def symbol(tree: Tree, node: int, kind: Kind, word: str, above: int) -> Symbol:
         front, back = Span(words.start, name.start), Span(name.end, words.end)
         detail = f"{one_line(tree, front).rstrip('_').rstrip()} {one_line(tree, back)}".strip(" ;")
     return Symbol(tree.text.slice(name), detail[:LONGEST], kind, span, name, above)
+
+
+def declared(tree: Tree, node: int) -> int:
+    """The node of the words of a definition or a member, of which the node may be one above."""
+    if tree.rules[node] in KINDS:
+        return node
+    return chosen(tree, node) if tree.rules[node] in FACTORED else node + 1
+
+
+def whole_of(tree: Tree, node: int) -> int:
+    """The node that has what is in front of some words too: of today's grammar it is further above."""
+    above = tree.above(node - 1) if node else -1
+    is_below = above >= 0 and tree.rules[above] in FACTORED and chosen(tree, above) == node
+    return above if is_below else node
 
 
 def words_start(tree: Tree, node: int) -> int:

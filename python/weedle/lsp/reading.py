@@ -12,10 +12,11 @@ from typing import Iterator, List, NamedTuple, Optional, Sequence
 
 from weedle import parse
 from weedle._comments import comments_before, said
+from weedle._dialect import Dialect
 from weedle._formatting import is_blank
 from weedle._listing import listing
 from weedle._text import Span
-from weedle.definitions import Definitions
+from weedle.edits import AnyDefinitions
 from weedle.errors import Refused
 from weedle.names import Name, Role
 from weedle.recovery import Part, recover
@@ -31,7 +32,8 @@ HEADS = {
     "partial namespace": Role.PARTIAL_NAMESPACE, "enum": Role.ENUM, "typedef": Role.TYPEDEF,
 }
 WORDS = frozenset(word for head in HEADS for word in head.split())
-IDENTIFIER, OPEN_BRACE, DOCSTRING = "identifier", "open_brace", "opt_docstring"
+IDENTIFIER, OPEN_BRACE = "identifier", "open_brace"
+DOCSTRINGS = frozenset(["opt_docstring", "today_docs"])
 DOC_LINE = re.compile(r"^\s*/// ?", re.MULTILINE)
 
 
@@ -61,6 +63,11 @@ class Problem:
         return self._refused.expected
 
     @property
+    def is_read_today(self) -> bool:
+        """Whether today's rules read the whole text, which weedle2's refuse."""
+        return self._refused.is_read_today
+
+    @property
     def hint(self) -> Optional[Hint]:
         """What would fix the text, or what it lacks."""
         found, span = HINT.match(self._refused.hint or ""), self._refused.hint_span
@@ -82,7 +89,9 @@ class Broken(NamedTuple):
 class Reading:
     """A text as far as it is read. What is in it is found when it is asked for."""
 
-    def __init__(self, definitions: Definitions, problems: List[Problem], parts: Sequence[Part]) -> None:
+    def __init__(
+        self, definitions: AnyDefinitions, problems: List[Problem], parts: Sequence[Part],
+    ) -> None:
         self.definitions, self.problems = definitions, problems
         self._parts = parts
 
@@ -104,33 +113,55 @@ class Reading:
         itself.
         """
         if self.is_whole:
-            return self.definitions._tree.children(0)
+            return [self._content(it) for it in self.definitions._tree.children(0)]
         return [
-            it._node for it in self._parts
+            self._content(it._node) for it in self._parts
             if it._node is not None and it.rule != IDENTIFIER and it.span.end > it.span.start
         ]
 
+    def _content(self, node: int) -> int:
+        """What is in a piece of a text of today's grammar, as a definition; else the node itself."""
+        tree = self.definitions._tree
+        grammar = tree.grammar
+        return node + (tree.rules[node] == grammar.item != grammar.definition)
 
-def read(data: bytes) -> Reading:
+
+def read(data: bytes, dialect: Dialect = "weedle2") -> Reading:
     """The definitions of a text, what is read of others, and each syntax error.
 
     A text of whitespace and comments alone has no definitions, and is no error.
     """
     try:
-        definitions = parse(b"" if is_blank(data) else data)
+        definitions = parse(b"" if is_blank(data) else data, dialect=dialect)
     except Refused as refused:
-        return recovered(data, refused)
+        return recovered(data, refused, dialect)
     return Reading(definitions, [], [])
 
 
-def recovered(data: bytes, first: Refused) -> Reading:
+def recovered(data: bytes, first: Refused, dialect: Dialect = "weedle2") -> Reading:
     """What is read of a text that is refused. Its first error is said as of the whole text."""
-    found = recover(data)
+    try:
+        found = recover(data, dialect=dialect)
+    except RecursionError:
+        return front_of(data, first, dialect)
+    empty = parse(b"", dialect=dialect)
     values = [it.value for it in found.definitions]
-    definitions: Definitions = listing(Definitions, found._tree, values)
+    definitions: AnyDefinitions = listing(type(empty), found._tree, values)
     problems = [Problem(it.span, it.refusal) for it in found.parts if it.refusal]
     problems[:1] = [Problem(problems[0].unread, first)]
     return Reading(definitions, problems, found.parts)
+
+
+def front_of(data: bytes, first: Refused, dialect: Dialect) -> Reading:
+    """What is read in front of an error, of a text that nests too deep for more."""
+    try:
+        definitions = parse(data[:first.start], dialect=dialect)
+    except Refused:
+        definitions = parse(b"", dialect=dialect)
+    found = Reading(definitions, [Problem(Span(first.start, len(data)), first)], [])
+    tree = definitions._tree
+    found.roots = [found._content(it) for it in tree.children(0)]
+    return found
 
 
 def broken_in(parts: Sequence[Part]) -> Iterator[Broken]:
@@ -167,7 +198,7 @@ def start_of(part: Part) -> int:
 
 def doc_of(parts: List[Part], start: int) -> str:
     """The docstring among some parts, or else what the comments in front of a place say."""
-    docstring = next((it.text for it in parts if it.is_read and it.rule == DOCSTRING), "")
+    docstring = next((it.text for it in parts if it.is_read and it.rule in DOCSTRINGS), "")
     comments = comments_before(parts[0]._tree, start)
     lines = [line for it in comments for line in said(it)]
     return DOC_LINE.sub("", docstring).strip("\n") or "\n".join(lines).strip("\n")

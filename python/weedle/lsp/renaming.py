@@ -9,9 +9,9 @@ from __future__ import annotations
 import re
 from typing import Dict, List, Optional, Tuple
 
+from weedle._dialect import grammar_of
 from weedle._text import Span
 from weedle.edits import DEFINING, RENAMED, kinds
-from weedle.grammar import KEYWORDS
 from weedle.lsp.navigation import MEMBERS, Target, names
 from weedle.lsp.protocol import Code, Fault, Json
 from weedle.lsp.sources import Source
@@ -47,10 +47,15 @@ def rename(workspace: Workspace, source: Source, place: int, given: str) -> Json
     if it.is_global:
         for other in workspace.sources():
             refuse_unread(other, it.text)
-    written = f"_{new}" if new in KEYWORDS else given
     return {"changes": {
-        uri: renamed(other, sorted(all_), new, written) for uri, (other, all_) in spans.items()
+        uri: renamed(other, sorted(all_), new, written(other, new, given))
+        for uri, (other, all_) in spans.items()
     }}
+
+
+def written(source: Source, new: str, given: str) -> str:
+    """A new name as it is written in a text: one that is a word there has an underscore in front."""
+    return f"_{new}" if new in grammar_of(source.dialect).keywords else given
 
 
 def refuse_taken(workspace: Workspace, source: Source, it: Target, new: str) -> None:
@@ -86,7 +91,7 @@ def said_place(source: Source, span: Span) -> str:
 
 def renamed(source: Source, spans: List[Span], new: str, written: str) -> List[Json]:
     """The changes of a text, once it was read with them."""
-    after = Source(source.uri, changed(source.data, spans, written.encode()))
+    after = source.of(changed(source.data, spans, written.encode()))
     places = set(spans)
     wanted = [(it.role, new if it.span in places else it.text) for it in source.all_names()]
     is_same = (

@@ -10,7 +10,7 @@ import sys
 import threading
 import traceback
 from collections import deque
-from typing import Any, BinaryIO, Deque, List, Set
+from typing import Any, BinaryIO, Deque, List, Set, Tuple
 
 from weedle.lsp.diagnostics import diagnostics, unchecked
 from weedle.lsp.features import NOTIFICATIONS, REQUESTS, capabilities
@@ -20,6 +20,8 @@ from weedle.lsp.session import Session, within
 from weedle.lsp.workspace import path_of
 
 CHANGES = "textDocument/didChange"
+# How bad a message is that the editor writes down.
+ERROR, WARNING = 1, 2
 END: Message = {"method": "exit"}
 
 
@@ -92,6 +94,9 @@ class Server:
         # the texts whose errors aren't told yet
         self.unsaid: List[str] = []
         self.running: Any = None
+        # the request for settings that was sent last, and the folders that it is about
+        self.asked: Tuple[str, List[str]] = "", []
+        self.count = 0
 
     def check(self) -> None:
         """Ends the request that runs where it isn't wanted any more."""
@@ -121,7 +126,7 @@ class Server:
         if "malformed" in message:
             self.write(failure(None, Fault(message["malformed"], Code.PARSE_ERROR)))
         elif "method" not in message:
-            return  # an answer to what the server asked
+            self.take_answer(message)
         elif "id" in message:
             self.answer(message)
         else:
@@ -172,6 +177,7 @@ class Server:
             raise Fault("initialize comes once", Code.INVALID_REQUEST)
         self.session.initialize(params)
         self.is_initialized = True
+        self.complain()
         return capabilities(self.session)
 
     def note(self, message: Message) -> None:
@@ -179,15 +185,42 @@ class Server:
         method, params = message["method"], message.get("params") or {}
         if method == "initialized":
             self.ask_for_watches()
+            self.session.wants_settings = self.session.has_settings
+            self.ask_for_settings()
         if method not in NOTIFICATIONS or not self.is_initialized or self.is_shut_down:
             return
         try:
             NOTIFICATIONS[method](self.session, params)
         except Exception as fault:
             traceback.print_exc(file=sys.stderr)
-            said = {"type": 1, "message": f"weedle: {method}: {type(fault).__name__}: {fault}"}
-            self.write(packed({"method": "window/logMessage", "params": said}))
+            self.log(ERROR, f"weedle: {method}: {type(fault).__name__}: {fault}")
+        self.ask_for_settings()
+        self.take_changes()
+
+    def take_changes(self) -> None:
+        """Has the errors of the texts told that are others now."""
         self.unsaid += (it for it in self.session.take_changed() if it not in self.unsaid)
+        self.complain()
+
+    def complain(self) -> None:
+        """Says what is wrong with settings."""
+        complaints, self.session.complaints = self.session.complaints, []
+        for it in complaints:
+            self.log(WARNING, it)
+
+    def log(self, level: int, said: str) -> None:
+        """Has the editor write a message down."""
+        params = {"type": level, "message": said}
+        self.write(packed({"method": "window/logMessage", "params": params}))
+
+    def take_answer(self, message: Message) -> None:
+        """Takes an answer to what the server asked: the settings that it asked for last."""
+        number, folders = self.asked
+        if number and message.get("id") == number:
+            self.asked = "", []
+            if "result" in message:
+                self.session.take_settings(folders, message["result"])
+                self.take_changes()
 
     def tell_errors(self, uri: str) -> None:
         """Tells the errors of a text, or that it has none where it was closed."""
@@ -204,12 +237,25 @@ class Server:
         self.write(packed({"method": "textDocument/publishDiagnostics", "params": params}))
 
     def ask_for_watches(self) -> None:
-        """Asks the client to tell what changes in the folders, where it offers that."""
-        if self.session.watches_files:
+        """Asks the client to tell what changes in the folders and the settings, where it offers that."""
+        watches = self.session.watches()
+        if watches:
             self.write(packed({
                 "id": "weedle-files", "method": "client/registerCapability",
-                "params": {"registrations": [self.session.watches()]},
+                "params": {"registrations": watches},
             }))
+
+    def ask_for_settings(self) -> None:
+        """Asks the client for the dialects of folders, where these may be others than they were."""
+        if not self.session.wants_settings:
+            return
+        self.session.wants_settings = False
+        folders, items = self.session.settings()
+        self.count += 1
+        self.asked = f"weedle-settings-{self.count}", folders
+        self.write(packed({
+            "id": self.asked[0], "method": "workspace/configuration", "params": {"items": items},
+        }))
 
 
 def failure(number: Any, fault: Fault) -> bytes:

@@ -7,10 +7,10 @@ from bisect import bisect_left, bisect_right
 from functools import cached_property
 from typing import Any, Dict, Iterator, List, Optional, Set
 
+from weedle._dialect import Dialect
 from weedle._text import Span
 from weedle._tree import Tree
-from weedle.definitions import Definition, Definitions
-from weedle.edits import RENAMED
+from weedle.edits import RENAMED, AnyDefinitions
 from weedle.index import name_of
 from weedle.lsp.positions import USUAL, Lines, Place
 from weedle.lsp.protocol import Json
@@ -31,8 +31,12 @@ def bytes_of(text: str) -> bytes:
 class Source:
     """A text, and what is read of it. It never changes: what is worked out is kept."""
 
-    def __init__(self, uri: str, data: bytes, encoding: str = USUAL) -> None:
+    def __init__(
+        self, uri: str, data: bytes, encoding: str = USUAL, dialect: Dialect = "weedle2",
+    ) -> None:
         self.uri, self.data, self.encoding = uri, data, encoding
+        #: The dialect that it is read by.
+        self.dialect: Dialect = dialect
         #: Its symbols with their places, where they were asked for.
         self.symbols: Optional[List[Json]] = None
 
@@ -44,10 +48,10 @@ class Source:
     @cached_property
     def reading(self) -> Reading:
         """What is read of it, and its syntax errors."""
-        return read(self.data)
+        return read(self.data, self.dialect)
 
     @property
-    def definitions(self) -> Definitions:
+    def definitions(self) -> AnyDefinitions:
         """The definitions that are read."""
         return self.reading.definitions
 
@@ -166,7 +170,7 @@ class Source:
     def _unread(self) -> List[int]:
         return [it.unread.start for it in self.reading.problems]
 
-    def definition_at(self, place: int) -> Optional[Definition.Variants]:
+    def definition_at(self, place: int) -> Optional[Any]:
         """The definition that a place is in, or in the comments in front of it."""
         root = self.root_at(place)
         for it in self.definitions:
@@ -215,5 +219,9 @@ class Source:
             if it.get("range"):
                 start, end = source.lines.span(it["range"])
                 data = b"%b%b%b" % (source.data[:start], data, source.data[end:])
-            source = Source(self.uri, data, self.encoding)
+            source = self.of(data)
         return source
+
+    def of(self, data: bytes, dialect: Optional[Dialect] = None) -> Source:
+        """Another text in its place, or the same of another dialect."""
+        return Source(self.uri, data, self.encoding, dialect or self.dialect)

@@ -5,8 +5,9 @@ from __future__ import annotations
 import re
 from typing import Dict, List, NamedTuple, Optional
 
+from weedle._dialect import GRAMMARS
 from weedle._text import Span
-from weedle.grammar import KEYWORDS, NUMBERS, RULES
+from weedle.grammar import NUMBERS, RULES
 from weedle.lsp.positions import Lines, Place
 from weedle.lsp.protocol import Check, Json, nothing
 from weedle.lsp.scanning import PATTERN
@@ -60,10 +61,16 @@ TYPE_WORDS = frozenset("""
     any boolean byte octet short long float double unsigned unrestricted undefined object symbol
     bigint DOMString USVString ByteString sequence record Promise FrozenArray Error ArrayBuffer
     ArrayBufferView BufferSource DataView Int8Array Int16Array Int32Array Uint8Array Uint16Array
-    Uint32Array Uint8ClampedArray Float32Array Float64Array
+    Uint32Array Uint8ClampedArray Float32Array Float64Array Float16Array BigInt64Array
+    BigUint64Array SharedArrayBuffer ObservableArray async_sequence
 """.split())
-WORDS: Dict[bytes, Look] = {
-    it.encode(): look("type", LIBRARY) if it in TYPE_WORDS else look("keyword") for it in KEYWORDS
+# What the words of each dialect are.
+WORDS: Dict[str, Dict[bytes, Look]] = {
+    dialect: {
+        it.encode(): look("type", LIBRARY) if it in TYPE_WORDS else look("keyword")
+        for it in grammar.keywords
+    }
+    for dialect, grammar in GRAMMARS.items()
 }
 IDENTIFIER = NUMBERS["identifier"]
 # Behind so many tokens it is asked whether the answer is wanted yet.
@@ -131,12 +138,12 @@ def tokens(source: Source, span: Optional[Span] = None, check: Check = nothing) 
     data, lines = source.data, source.lines
     start, end = span or Span(0, len(data))
     start, end = lines.starts[lines.line_of(start)], lines.end_of(lines.line_of(end))
-    names = roles(source, start, end)
+    names, words = roles(source, start, end), WORDS[source.dialect]
     encoder = Encoder(lines, start)
     for number, it in enumerate(TOKEN.finditer(data, start, end)):
         kind = it.lastgroup or ""
         place, behind = it.span()
-        found = KINDS.get(kind) or names.get(place) or WORDS.get(it[0])
+        found = KINDS.get(kind) or names.get(place) or words.get(it[0])
         if not number % OFTEN:
             check()
         if found or source.is_unread(place):

@@ -10,7 +10,7 @@ from functools import lru_cache
 from typing import FrozenSet, List, NamedTuple, Optional, Tuple
 
 from weedle import Refused, parse
-from weedle.grammar import KEYWORDS
+from weedle._dialect import Dialect, grammar_of
 from weedle.lsp.scanning import COMMENTS, Token, scan
 
 # A word that is no keyword.
@@ -89,27 +89,27 @@ def is_open(text: bytes, kind: str) -> bool:
     return kind in COMMENTS
 
 
-def answer(text: bytes) -> Tuple[int, str]:
+def answer(text: bytes, dialect: Dialect) -> Tuple[int, str]:
     """How far the reading of a text comes, and what would be read there."""
     try:
-        parse(text)
+        parse(text, dialect=dialect)
     except Refused as refused:
         return refused.place, refused.expected
     return len(text), ""
 
 
 @lru_cache(maxsize=256)
-def expected(front: Front) -> Optional[Expected]:
+def expected(front: Front, dialect: Dialect = "weedle2") -> Optional[Expected]:
     """What goes on behind a front; None where the front isn't read."""
     text = front.text
-    place, _ = answer(text)
+    place, _ = answer(text, dialect)
     if place < len(text.rstrip()):
         return None
-    place, behind_name = answer(text + ANY)
+    place, behind_name = answer(text + ANY, dialect)
     has_name = place == len(text) + len(ANY)
     found = set()
-    for word in KEYWORDS:
-        place, behind = answer(text + word.encode())
+    for word in grammar_of(dialect).keywords:
+        place, behind = answer(text + word.encode(), dialect)
         if place == len(text) + len(word) and not (has_name and behind == behind_name):
             found.add(word)
     if found >= BESIDE_CONSTRUCTOR:

@@ -9,6 +9,7 @@ from pathlib import Path
 from typing import Any, Dict, Iterator, List, NamedTuple, Optional, Tuple
 from urllib.parse import unquote, urlsplit
 
+from weedle._dialect import Dialect
 from weedle.lsp.positions import USUAL
 from weedle.lsp.protocol import Check, Code, Fault, nothing
 from weedle.lsp.sources import Source, bytes_of
@@ -43,7 +44,12 @@ def path_of(uri: str) -> str:
     return os.path.normpath(unquote(parts.path)) if parts.scheme == "file" else uri
 
 
-def source_of(path: str, encoding: str) -> Optional[Source]:
+def is_within(path: str, folder: str) -> bool:
+    """Whether a file is in a folder or below it; all is in the one without a name."""
+    return not folder or path == folder or path.startswith(folder.rstrip("/") + "/")
+
+
+def source_of(path: str, encoding: str, dialect: Dialect = "weedle2") -> Optional[Source]:
     """The text of a file; None of one that isn't UTF-8, or can't be read."""
     try:
         data = Path(path).read_bytes()
@@ -52,7 +58,7 @@ def source_of(path: str, encoding: str) -> Optional[Source]:
         return None
     if data.startswith(BYTE_ORDER_MARK):
         data = data[len(BYTE_ORDER_MARK):]  # editors leave it out too
-    return Source(Path(path).as_uri(), data, encoding)
+    return Source(Path(path).as_uri(), data, encoding, dialect)
 
 
 def files_in(folder: str, check: Check) -> Iterator[Tuple[str, Tuple[int, int]]]:
@@ -77,13 +83,18 @@ class Workspace:
         self.check = check
         self.encoding = USUAL
         self.folders: List[str] = []
+        #: The dialect of texts of whose folder none is said, and those of folders; "" is all of them.
+        self.dialect: Dialect = "weedle2"
+        self.dialects: Dict[str, Dialect] = {}
         self.documents: Dict[str, Document] = {}
         self.files: Dict[str, File] = {}
         self._next_look = 0.0
 
     def open(self, uri: str, version: Optional[int], text: str) -> None:
         """Takes a text that was opened."""
-        self.documents[path_of(uri)] = Document(version, Source(uri, bytes_of(text), self.encoding))
+        path = path_of(uri)
+        source = Source(uri, bytes_of(text), self.encoding, self.dialect_of(path))
+        self.documents[path] = Document(version, source)
 
     def change(self, uri: str, version: Optional[int], changes: List[Any]) -> None:
         """Takes the changes of a text that is open."""
@@ -104,6 +115,27 @@ class Workspace:
     def forget(self) -> None:
         """Has the folders looked at when they are asked for next."""
         self._next_look = 0.0
+
+    def dialect_of(self, path: str) -> Dialect:
+        """The dialect of a text: that of the innermost folder that it is in, of which one is said."""
+        folders = [it for it in self.dialects if is_within(path, it)]
+        return self.dialects[max(folders, key=len)] if folders else self.dialect
+
+    def use(self, dialects: Dict[str, Dialect]) -> List[str]:
+        """Takes the dialects of folders. It gives the open texts that are read by another one now."""
+        self.dialects = dialects
+        changed: List[str] = []
+        for path, (version, source) in list(self.documents.items()):
+            dialect = self.dialect_of(path)
+            if source.dialect != dialect:
+                changed.append(source.uri)
+                self.documents[path] = Document(version, source.of(source.data, dialect))
+        for path, file in list(self.files.items()):
+            dialect = self.dialect_of(path)
+            if file.source and file.source.dialect != dialect:
+                again = file.source.of(file.source.data, dialect)
+                self.files[path] = File(file.stamp, again)
+        return changed
 
     def sources(self) -> Iterator[Source]:
         """All texts: those that are open first."""
@@ -126,7 +158,8 @@ class Workspace:
             found.add(path)
             known = self.files.get(path)
             if not known or known.stamp != stamp:
-                self.files[path] = File(stamp, source_of(path, self.encoding))
+                source = source_of(path, self.encoding, self.dialect_of(path))
+                self.files[path] = File(stamp, source)
         for path in set(self.files) - found:
             del self.files[path]
         ended = time.monotonic()
