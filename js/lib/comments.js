@@ -101,13 +101,24 @@ function said(comment) {
   return inner.split("\n").map((line) => line.replace(FRONT, "").replace(BACK, ""));
 }
 
-/** What the docstring of a value says, or else what the comments in front of it say; empty without both. */
+/** The docstrings in front of a definition, a member or a value of an enum. */
+function docstringsOf(value) {
+  const isValue = typeof value === "object" && value !== null;
+  if (!isValue || value.docstring) {
+    return isValue ? [value.docstring] : [];
+  }
+  // of what is between braces they are behind its members
+  return "body" in value || !value.docstrings ? [] : value.docstrings;
+}
+
+/** What the docstrings of a value say, or else what the comments in front of it say; empty without both. */
 function docOf(value) {
-  const docstring = value.docstring ?? value.value?.docstring;
-  const lines = docstring
-    ? docstring.value.split("\n").map((line) => line.replace(/^ /, ""))
-    : value.comments.flatMap(said);
-  return docstring ? lines.join("\n") : lines.join("\n").replace(/^\n+|\n+$/g, "");
+  const own = docstringsOf(value);
+  const found = own.length ? own : docstringsOf(value.value);
+  if (found.length) {
+    return found.flatMap((it) => it.value.split("\n")).map((line) => line.replace(/^ /, "")).join("\n");
+  }
+  return value.comments.flatMap(said).join("\n").replace(/^\n+|\n+$/g, "");
 }
 
 module.exports = { COMMENTS, commentsBefore, commentsBehind, docOf };

@@ -5,13 +5,24 @@
  * @module
  */
 
-const { explanationOf, inARow, wordsOf } = require("./explanation.js");
+const { explanationOf, inARow, isReadToday, wordsOf } = require("./explanation.js");
+
+/** What is said of a text that weedle2's rules refuse and today's read whole, and how a program in JavaScript says so. */
+const [READ_TODAY, IN_JAVASCRIPT] = ["today's WebIDL reads it", 'dialect: "today"'];
+
+/** The message of what is refused, without the last line that says so. */
+let saidOf;
 
 /** A text that the grammar doesn't read whole, or a part of one that is unread. */
 class Refused extends SyntaxError {
   #text;
   #part;
+  #said;
   #words;
+
+  static {
+    saidOf = (refused) => refused.#said;
+  }
 
   constructor(text, start, part = null) {
     const { place, hint, hintKind, hintPlace, hintLength, message } = explanationOf(text, start, part);
@@ -19,7 +30,10 @@ class Refused extends SyntaxError {
     const { line, column } = text.position(place);
     this.#text = text;
     this.#part = part;
-    Object.assign(this, { line, column, hint, hintKind });
+    this.#said = message;
+    Object.assign(this, { line, column, hint, hintKind, dialect: text.dialect });
+    this.isReadToday = part === null && isReadToday(text);
+    this.message = this.isReadToday ? `${message}\n${READ_TODAY}: ${IN_JAVASCRIPT}` : message;
     this.hintByteSpan = hintKind && { start: hintPlace, end: hintPlace + hintLength };
     this.hintSpan = hintKind && { start: text.units(hintPlace), end: text.units(hintPlace + hintLength) };
     Object.assign(this, { start: text.units(start), place: text.units(place), byteStart: start, bytePlace: place });
@@ -61,4 +75,4 @@ class NoMemory extends RangeError {
   }
 }
 
-module.exports = { NoMemory, NotUtf8, Refused };
+module.exports = { NoMemory, NotUtf8, READ_TODAY, Refused, saidOf };

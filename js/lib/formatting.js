@@ -5,6 +5,7 @@
  * @module
  */
 
+const { Dialect } = require("./dialects.js");
 const { Status, library } = require("./library.js");
 const { faultOf, textOf } = require("./reading.js");
 
@@ -22,14 +23,17 @@ function isBlank(string) {
 }
 
 /** The formatted text, as a string of a string, and as a Buffer of bytes. */
-function format(given) {
-  const text = textOf(given);
-  let laidOut = library.format(text.bytes);
-  if (!Buffer.isBuffer(laidOut)) {
-    if (laidOut.status !== Status.REFUSED || !isBlank(text.string)) {
-      throw faultOf(text, laidOut.status, laidOut.rest);
-    }
+function format(given, options) {
+  const text = textOf(given, options);
+  let laidOut = library.format(Dialect[text.dialect], text.bytes);
+  const { status, rest } = laidOut;
+  const isRefused = status === Status.REFUSED;
+  // today's rules read what weedle2's refuse there
+  const stays = (isRefused || Buffer.isBuffer(laidOut)) && isBlank(text.string);
+  if (stays) {
     laidOut = text.bytes;
+  } else if (!Buffer.isBuffer(laidOut)) {
+    throw faultOf(text, status, rest);
   }
   return typeof given === "string" ? laidOut.toString("utf8") : laidOut;
 }

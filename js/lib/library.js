@@ -23,8 +23,8 @@ const PLACES = ["weedle.node", `native/${TARGET}/weedle.node`, `../prebuilt/${TA
   path.join(HOME, it),
 );
 
-/** What a call comes to, as `enum weedle_status` of include/weedle.h has it. */
-const Status = Object.freeze({ READ: 0, REFUSED: 1, NOT_UTF8: 2, NO_MEMORY: 3, NO_ROOM: 4, TOO_LONG: 5 });
+/** What a call comes to, as `enum weedle_status` of include/weedle.h has it: those that come from here. */
+const Status = Object.freeze({ READ: 0, REFUSED: 1, NOT_UTF8: 2, NO_MEMORY: 3, NO_ROOM: 4, TOO_LONG: 5, TOO_DEEP: 9 });
 
 /** Where the addon is, or where it would have to be. */
 function place() {

@@ -6,7 +6,7 @@
  */
 
 const { NUMBERS, RULES } = require("./written/grammar.js");
-const { Form, ITEMS, FOLLOWING, Option } = require("./writing.js");
+const { ByChoice, Form, ITEMS, FOLLOWING, Option, THROUGH } = require("./writing.js");
 
 /** Makes a value of a class; of a list that class is told the class of its separators. */
 class One {
@@ -34,18 +34,16 @@ class One {
 
 /** Makes the variant for the rule that was chosen. */
 class Variants {
-  #classes;
-
   constructor(classes) {
-    this.#classes = new Map(Object.entries(classes).map(([rule, kind]) => [NUMBERS[rule], kind]));
+    this.classes = new Map(Object.entries(classes).map(([rule, kind]) => [NUMBERS[rule], kind]));
   }
 
   get kinds() {
-    return [...this.#classes.values()];
+    return [...this.classes.values()];
   }
 
   kindAt(tree, node) {
-    return this.#classes.get(tree.rule(node + 1));
+    return this.classes.get(tree.rule(node + 1));
   }
 
   make(tree, node) {
@@ -53,9 +51,42 @@ class Variants {
   }
 
   get form() {
-    return new Map([...this.#classes].map(([rule, kind]) => [rule, kind.form()]));
+    return new Map([...this.classes].map(([rule, kind]) => [rule, kind.form()]));
   }
 }
+
+/**
+ * Makes the variant of a factored row, in which docstrings and attributes are in front of what was chosen. What the variant
+ * holds has these too, and is at the same node.
+ */
+class Kinds extends Variants {
+  constructor(pairs) {
+    const all = Object.entries(pairs);
+    super(Object.fromEntries(all.map(([rule, [variant]]) => [rule, variant])));
+    this.structs = new Map(all.map(([rule, [, struct]]) => [NUMBERS[rule], struct]));
+  }
+
+  get kinds() {
+    return [...this.classes.values(), ...this.structs.values()];
+  }
+
+  kindAt(tree, node) {
+    return this.classes.get(tree.rule(chosenIn(tree, node)));
+  }
+
+  /** The class of what the variant holds. */
+  structAt(tree, node) {
+    return this.structs.get(tree.rule(chosenIn(tree, node)));
+  }
+
+  get form() {
+    const forms = [...this.classes].map(([rule, kind]) => [rule, kind.form().around(this.structs.get(rule).form())]);
+    return new ByChoice(new Map(forms));
+  }
+}
+
+/** The node of what was chosen in a factored row, whose last part is the choice. */
+const chosenIn = (tree, node) => tree.children(node).pop() + 1;
 
 /** What makes no value of a class: a list, a tuple, or what may be absent. */
 class Other {
@@ -91,6 +122,36 @@ class Together extends Many {
   }
 }
 
+/** Makes a list of the definitions of a text, and of the docstrings that none follows. */
+class Pieces extends Many {
+  make(tree, node) {
+    return Object.freeze(super.make(tree, node).filter((it) => it !== null));
+  }
+}
+
+/** Makes what is below a node of one part, or null. What was chosen in a factored row is no value of its own. */
+class Through extends Other {
+  form = THROUGH;
+
+  make(tree, node) {
+    return isMade(tree.rule(node + 1)) && tree.child(node, 1) < 0 ? made(tree, node + 1) : null;
+  }
+}
+
+/** Makes what is in the part of this number. */
+class Within extends Other {
+  form = THROUGH;
+
+  constructor(number) {
+    super();
+    this.number = number;
+  }
+
+  make(tree, node) {
+    return made(tree, tree.child(node, this.number));
+  }
+}
+
 /** A part of a list with separators, which has no value: its items and what follows the first of them. */
 class Between extends Other {
   constructor(form) {
@@ -118,6 +179,17 @@ function made(tree, node) {
     values[node] = value;
   }
   return value;
+}
+
+/** Whether a value is made for a rule: nothing is for a rule of whitespace or comments. */
+const isMade = (rule) => makers[rule] !== undefined;
+
+/** What the variant at a node holds where its row is a factored one, which is at that node too; else null. */
+const innerOf = (tree, node) => (makers[tree.rule(node)] instanceof Kinds ? made(tree, node).value : null);
+
+/** What the variant of a factored row holds, made anew. */
+function structOf(tree, node) {
+  return new (makers[tree.rule(node)].structAt(tree, node))(tree, node);
 }
 
 /** The class of a node's value, where it has one that is no list. */
@@ -150,5 +222,6 @@ function formsOf() {
 }
 
 module.exports = {
-  Between, FOLLOWING, ITEMS, Many, Maybe, One, Together, Variants, formsOf, kindAt, made, rulesOf, rulesOfAll, tellMakers,
+  Between, FOLLOWING, ITEMS, Kinds, Many, Maybe, One, Pieces, Through, Together, Variants, Within, chosenIn, formsOf,
+  innerOf, isMade, kindAt, made, rulesOf, rulesOfAll, structOf, tellMakers,
 };

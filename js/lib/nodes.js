@@ -99,6 +99,6 @@ class Node {
 }
 
 /** The node of a whole text, whose children are its definitions. */
-const syntax = (text) => new Node(treeOf(text), 0);
+const syntax = (text, options) => new Node(treeOf(text, options), 0);
 
 module.exports = { Node, syntax };

@@ -24,9 +24,8 @@ class Definitions extends Array {
     definitionsOf = (tree) => {
       const found = new Definitions();
       found.#tree = tree;
-      for (const node of tree.children(0)) {
-        found.push(made(tree, node));
-      }
+      // what today's rules read between definitions gives no value, but for docstrings
+      found.push(...tree.children(0).map((node) => made(tree, node)).filter((it) => it !== null));
       return found;
     };
   }
@@ -58,6 +57,6 @@ class Definitions extends Array {
 }
 
 /** The definitions of a text. */
-const parse = (text) => definitionsOf(treeOf(text));
+const parse = (text, options) => definitionsOf(treeOf(text, options));
 
 module.exports = { Definitions, parse };

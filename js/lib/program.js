@@ -8,7 +8,7 @@
 const fs = require("node:fs");
 const { parseArgs } = require("node:util");
 
-const { NoMemory, NotUtf8, Refused } = require("./errors.js");
+const { NoMemory, NotUtf8, READ_TODAY, Refused, saidOf } = require("./errors.js");
 const { format } = require("./formatting.js");
 const { library } = require("./library.js");
 const { syntax } = require("./nodes.js");
@@ -19,7 +19,9 @@ const { version } = require("../package.json");
 
 /** How many errors of a file are said where no number is given. */
 const MOST_ERRORS = 20;
-const USAGE = "usage: weedle [--help] [--json | --syntax | --format] [--errors N] [--version] [FILE ...]";
+const USAGE = "usage: weedle [--help] [--json | --syntax | --format] [--today] [--errors N] [--version] [FILE ...]";
+/** How today's rules are asked for. */
+const TODAY = "--today";
 const HELP = `${USAGE}
 
 Reads files of WebIDL. Without a file it reads standard input, which \`-\` names too.
@@ -28,6 +30,7 @@ Reads files of WebIDL. Without a file it reads standard input, which \`-\` names
               the \`file\` and the \`definition\`
   --syntax    write each node on a line, indented by its depth
   --format    write the text laid out
+  --today     read by the rules of today's WebIDL in place of weedle2's
   --errors N  say so many errors of each file at most (${MOST_ERRORS}); with 1 look for no others
   --version   write the version
 
@@ -48,16 +51,16 @@ const asciiJson = (text) =>
   JSON.stringify(text).replace(/[\u0080-\uffff]/g, (it) => `\\u${it.charCodeAt(0).toString(16).padStart(4, "0")}`);
 
 /** Writes each definition on a line, with the file's name where there are several. */
-function writeJson(bytes, out, name) {
+function writeJson(bytes, options, out, name) {
   const [front, back] = name === null ? ["", ""] : [`{"file":${asciiJson(name)},"definition":`, "}"];
-  for (const definition of parse(bytes)) {
+  for (const definition of parse(bytes, options)) {
     out.write(`${front}${definition.jsonText()}${back}\n`);
   }
 }
 
 /** Writes each node on a line: its name, its bytes, and of one with none below it its text. */
-function writeSyntax(bytes, out) {
-  for (const node of syntax(bytes).walk()) {
+function writeSyntax(bytes, options, out) {
+  for (const node of syntax(bytes, options).walk()) {
     const { start, end } = node.byteSpan;
     const text = node.isLeaf ? ` ${JSON.stringify(node.text)}` : "";
     out.write(`${"  ".repeat(node.depth)}${node.name} ${start}..${end}${text}\n`);
@@ -65,11 +68,16 @@ function writeSyntax(bytes, out) {
 }
 
 /** What writes the text of a file, by the option. */
-const WRITERS = { json: writeJson, syntax: writeSyntax, format: (bytes, out) => out.write(format(bytes)) };
+const WRITERS = {
+  json: writeJson,
+  syntax: writeSyntax,
+  format: (bytes, options, out) => out.write(format(bytes, options)),
+};
 
 /** A run over some files. */
 class Run {
   #write;
+  #options;
   #out;
   #isNamed;
   #most;
@@ -78,10 +86,11 @@ class Run {
   #errors = 0;
   #unread = 0;
 
-  constructor(write, out, isNamed, most) {
+  constructor({ write, options, most, files }, out) {
     this.#write = write;
+    this.#options = options;
     this.#out = out;
-    this.#isNamed = isNamed;
+    this.#isNamed = files.length > 1;
     this.#most = most;
   }
 
@@ -105,12 +114,21 @@ class Run {
       return this.#complain(name, `cannot read input: ${said(fault)}`, Status.UNREADABLE);
     }
     try {
-      this.#write ? this.#write(bytes, this.#out, this.#isNamed ? name : null) : parse(bytes);
+      this.#readOne(name, bytes);
     } catch (fault) {
       return this.#faulty(name, bytes, fault);
     }
     this.#files += 1;
     return Status.READ;
+  }
+
+  /** Reads the bytes of a file, and writes what is in them. */
+  #readOne(name, bytes) {
+    if (this.#write) {
+      this.#write(bytes, this.#options, this.#out, this.#isNamed ? name : null);
+    } else {
+      parse(bytes, this.#options);
+    }
   }
 
   /** What a file comes to that gives no tree. */
@@ -135,23 +153,27 @@ class Run {
     const all = [refused, ...this.#others(bytes)];
     this.#errors += all.length;
     for (const it of all.slice(0, this.#most)) {
-      this.#tell(`${name}:${it.message}\n`);
+      this.#tell(`${name}:${saidOf(it)}\n`);
     }
     const left = all.length - this.#most;
     if (left > 0) {
       this.#tell(`${name}: ${left} more error${left === 1 ? "" : "s"}\n`);
     }
+    if (refused.isReadToday) {
+      this.#tell(`${READ_TODAY}: ${TODAY}\n`);
+    }
   }
 
-  /** The errors of a file behind its first; none where one is asked for, or where memory runs out. */
+  /** The errors of a file behind its first; none where one is asked for, or where the text isn't divided into parts. */
   #others(bytes) {
     if (this.#most === 1) {
       return [];
     }
     try {
-      return recover(bytes).errors.slice(1);
+      return recover(bytes, this.#options).errors.slice(1);
     } catch (fault) {
-      if (fault instanceof NoMemory) {
+      // memory is refused, or the text nests too deep
+      if (fault instanceof RangeError) {
         return [];
       }
       throw fault;
@@ -198,11 +220,11 @@ const said = (fault) =>
 
 /** The arguments of a run, or null where they are others. */
 function wantedBy(words) {
-  const names = [...Object.keys(WRITERS), "version", "help"];
-  const options = { ...Object.fromEntries(names.map((name) => [name, { type: "boolean" }])), errors: { type: "string" } };
-  options.help.short = "h";
+  const names = [...Object.keys(WRITERS), "today", "version", "help"];
+  const known = { ...Object.fromEntries(names.map((name) => [name, { type: "boolean" }])), errors: { type: "string" } };
+  known.help.short = "h";
   try {
-    const { values, positionals } = parseArgs({ args: words, options, allowPositionals: true });
+    const { values, positionals } = parseArgs({ args: words, options: known, allowPositionals: true });
     const ways = Object.keys(WRITERS).filter((name) => values[name]);
     if (ways.length > 1) {
       throw new TypeError(`--${ways[1]} isn't for use beside --${ways[0]}`);
@@ -211,7 +233,9 @@ function wantedBy(words) {
     if (!Number.isSafeInteger(most) || most < 1) {
       throw new TypeError("--errors needs a number from 1 on");
     }
-    return { ...values, most, write: WRITERS[ways[0]], files: positionals.length ? positionals : [DASH] };
+    const options = { dialect: values.today ? "today" : "weedle2" };
+    const files = positionals.length ? positionals : [DASH];
+    return { ...values, most, write: WRITERS[ways[0]], options, files };
   } catch (fault) {
     complain(`${USAGE}\nweedle: ${fault.message}\n`);
     return null;
@@ -236,7 +260,7 @@ function main(words) {
     if (wanted.help || wanted.version) {
       return show(wanted.help ? HELP : `weedle ${version}\n`, out);
     }
-    return new Run(wanted.write, out, wanted.files.length > 1, wanted.most).readAll(wanted.files);
+    return new Run(wanted, out).readAll(wanted.files);
   } catch (fault) {
     if (fault.syscall !== "write") {
       throw fault;

@@ -5,6 +5,7 @@
  * @module
  */
 
+const { Dialect, dialectOf } = require("./dialects.js");
 const { NoMemory, NotUtf8, Refused } = require("./errors.js");
 const { Status, library } = require("./library.js");
 const { Text } = require("./text.js");
@@ -24,14 +25,16 @@ function faultOf(text, status, rest) {
       return new NoMemory(text);
     case Status.TOO_LONG:
       return new RangeError(`a text of ${text.bytes.length} bytes is longer than nodes can hold`);
+    case Status.TOO_DEEP:
+      return new RangeError("the text nests too deep for today's rules to divide it into parts");
     default:
       return new Error(`the library gives the status ${status}`);
   }
 }
 
-/** A text that was given, which has to be Unicode. */
-function textOf(given) {
-  const text = new Text(given);
+/** A text that was given, which has to be Unicode, with the dialect of some options. */
+function textOf(given, options) {
+  const text = new Text(given, dialectOf(options));
   if (typeof given === "string" && text.surrogate >= 0) {
     throw new NotUtf8(text.surrogate);
   }
@@ -51,16 +54,17 @@ function roomFor(nodes) {
 }
 
 /** The nodes of a text. A text that has more of them than most is read again with as much room as it takes. */
-function treeOf(given) {
-  const text = textOf(given);
+function treeOf(given, options) {
+  const text = textOf(given, options);
+  const dialect = Dialect[text.dialect];
   let room = roomFor(Math.ceil(text.bytes.length * NODES_A_BYTE) + LEAST_NODES) ?? new Uint32Array(0);
-  let found = library.syntax(text.bytes, room);
+  let found = library.syntax(dialect, text.bytes, room);
   if (found.status === Status.NO_ROOM) {
     room = roomFor(found.count);
     if (room === null) {
       throw new NoMemory(text);
     }
-    found = library.syntax(text.bytes, room);
+    found = library.syntax(dialect, text.bytes, room);
   }
   if (found.status !== Status.READ) {
     throw faultOf(text, found.status, found.rest);
@@ -81,16 +85,16 @@ function roomsFor(text, parts, nodes) {
 }
 
 /** The numbers of the parts of a text, each a Uint32Array, and the nodes of those that are read. */
-function partsOf(given) {
-  const text = textOf(given);
-  const { length } = text.bytes;
+function partsOf(given, options) {
+  const text = textOf(given, options);
+  const [dialect, { length }] = [Dialect[text.dialect], text.bytes];
   // a multiple of what makes the room of parts one of whole nodes
   const many = STRIDE * Math.ceil((length + LEAST_PARTS) / STRIDE);
   let [parts, nodes] = roomsFor(text, many, Math.ceil(length * NODES_A_BYTE) + LEAST_NODES);
-  let found = library.recover(text.bytes, parts, nodes);
+  let found = library.recover(dialect, text.bytes, parts, nodes);
   if (found.status === Status.NO_ROOM) {
     [parts, nodes] = roomsFor(text, STRIDE * Math.ceil(found.parts / STRIDE), found.nodes);
-    found = library.recover(text.bytes, parts, nodes);
+    found = library.recover(dialect, text.bytes, parts, nodes);
   }
   if (found.status !== Status.READ) {
     throw faultOf(text, found.status, found.rest);

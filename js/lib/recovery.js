@@ -8,15 +8,17 @@
 const { inspect } = require("node:util");
 
 const { Refused } = require("./errors.js");
-const { made } = require("./making.js");
+const { made, rulesOfAll } = require("./making.js");
 const { Node } = require("./nodes.js");
 const { partsOf } = require("./reading.js");
-const { rulesOfAll } = require("./making.js");
 const { NUMBERS, RULES } = require("./written/grammar.js");
 require("./written/makers.js");
 
 /** The numbers of a part, in their order. */
 const [RULE, IS_READ, START, END, OF_DEFINITION] = [0, 1, 2, 3, 4];
+
+/** The rules of definitions, and that of a piece of a text by today's rules: a definition, or what is between two. */
+const [DEFINITIONS, PIECE] = [[NUMBERS.definition, NUMBERS.today_definition], NUMBERS.today_piece];
 
 /** A part of a text: a rule that is read, or an unread stretch. */
 class Part {
@@ -64,8 +66,14 @@ class Part {
   }
 
   get value() {
-    const isValue = this.isRead && rulesOfAll()[this.#numbers[RULE]] === 1;
+    const rule = this.#numbers[RULE];
+    const isValue = this.isRead && (rule === PIECE || rulesOfAll()[rule] === 1);
     return isValue ? made(this.#tree, this.#node) : null;
+  }
+
+  get isDefinition() {
+    const rule = this.#numbers[RULE] === PIECE && this.isRead ? this.#tree.rule(this.#node + 1) : this.#numbers[RULE];
+    return this.isRead && DEFINITIONS.includes(rule);
   }
 
   get refusal() {
@@ -99,13 +107,13 @@ class Recovered {
   }
 
   get definitions() {
-    return this.parts.filter((it) => it.isRead && it.rule === RULES[NUMBERS.definition]).map((it) => it.value);
+    return this.parts.filter((it) => it.isDefinition).map((it) => it.value);
   }
 }
 
 /** The parts of a text, read or unread, whatever errors it has. */
-function recover(text) {
-  const { tree, numbers } = partsOf(text);
+function recover(text, options) {
+  const { tree, numbers } = partsOf(text, options);
   return new Recovered(tree, numbers);
 }
 

@@ -35,8 +35,10 @@ class Text {
 
   /**
    * @param {string | Uint8Array} given
+   * @param {"weedle2" | "today"} dialect by which it is read
    */
-  constructor(given) {
+  constructor(given, dialect) {
+    this.dialect = dialect;
     if (typeof given === "string") {
       this.#string = given;
       this.bytes = Buffer.from(given);

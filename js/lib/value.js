@@ -8,12 +8,14 @@
 const { inspect } = require("node:util");
 
 const { commentsBefore, commentsBehind, docOf } = require("./comments.js");
-const { formsOf, made } = require("./making.js");
+const { chosenIn, formsOf, made, structOf } = require("./making.js");
 const { parentOf, valuesIn, valuesOf } = require("./walking.js");
 const { entries, listed, wrapped, write } = require("./writing.js");
 
 /** The tree and the node of a value; the value's part of a number, or null where there is none. */
 let treeOf, nodeOf, part;
+/** The same of what the variant of a factored row holds: its parts in front of the choice come first. */
+let chosenPart;
 
 /** What was read of a text. Its parts are made when they are asked for, and once. */
 class Value {
@@ -26,6 +28,12 @@ class Value {
     part = (value, number) => {
       const child = value.#tree.child(value.#node, number);
       return child < 0 ? null : made(value.#tree, child);
+    };
+    chosenPart = (value, number) => {
+      const tree = value.#tree;
+      const fronts = tree.children(value.#node).length - 1;
+      const [node, at] = number < fronts ? [value.#node, number] : [chosenIn(tree, value.#node), number - fronts];
+      return made(tree, tree.child(node, at));
     };
   }
 
@@ -230,6 +238,42 @@ class Choice extends Wrapped {
   }
 }
 
+/** A variant of a factored row, which is at the same node as what it holds. */
+class Factored extends Choice {
+  #value;
+
+  get value() {
+    return (this.#value ??= structOf(treeOf(this), nodeOf(this)));
+  }
+}
+
+/** What such a variant holds: what is in front of the choice is a part of it too. */
+class Chosen extends Value {
+  get parent() {
+    return made(treeOf(this), nodeOf(this));
+  }
+
+  *walk() {
+    const all = super.walk();
+    // the variant that holds it
+    all.next();
+    yield* all;
+  }
+
+  *find(kind) {
+    const variant = this.parent;
+    for (const it of super.find(kind)) {
+      if (it !== variant) {
+        yield it;
+      }
+    }
+  }
+
+  jsonText() {
+    return write(treeOf(this), nodeOf(this), formsOf(), this.constructor.form());
+  }
+}
+
 /** A whole number, in one of several bases. */
 class WholeChoice extends Choice {
   get number() {
@@ -311,8 +355,10 @@ class FilledList extends Listed {
 
 module.exports = {
   Choice,
+  Chosen,
   Decimal,
   DecimalChoice,
+  Factored,
   FilledList,
   Leaf,
   Lines,
@@ -324,6 +370,7 @@ module.exports = {
   Whole,
   WholeChoice,
   Wrapped,
+  chosenPart,
   nodeOf,
   part,
   treeOf,

@@ -5,7 +5,7 @@
  * @module
  */
 
-const { kindAt, made, rulesOf, rulesOfAll } = require("./making.js");
+const { innerOf, kindAt, made, rulesOf, rulesOfAll } = require("./making.js");
 
 /** The values of the nodes from one up to another, in preorder. */
 function* valuesIn(tree, node, behind) {
@@ -13,6 +13,10 @@ function* valuesIn(tree, node, behind) {
   for (let at = node; at < behind; at++) {
     if (wanted[tree.rule(at)] === 1) {
       yield made(tree, at);
+      const inner = innerOf(tree, at);
+      if (inner !== null) {
+        yield inner;
+      }
     }
   }
 }
@@ -21,8 +25,14 @@ function* valuesIn(tree, node, behind) {
 function* valuesOf(tree, node, behind, kind) {
   const wanted = rulesOf(kind);
   for (let at = node; at < behind; at++) {
-    if (wanted[tree.rule(at)] === 1 && isOf(kindAt(tree, at), kind)) {
-      yield made(tree, at);
+    if (wanted[tree.rule(at)] === 1) {
+      if (isOf(kindAt(tree, at), kind)) {
+        yield made(tree, at);
+      }
+      const inner = innerOf(tree, at);
+      if (inner !== null && isOf(inner.constructor, kind)) {
+        yield inner;
+      }
     }
   }
 }
@@ -36,7 +46,7 @@ function parentOf(tree, node) {
   let [below, above] = [node, tree.above(node)];
   while (above !== below) {
     if (values[tree.rule(above)] === 1) {
-      return made(tree, above);
+      return innerOf(tree, above) ?? made(tree, above);
     }
     [below, above] = [above, tree.above(above)];
   }

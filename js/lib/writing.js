@@ -36,7 +36,27 @@ class Form {
     }
     return this.fronts.slice(number).map((it) => it + this.absent).join("") + this.closing;
   }
+
+  /** The form of what has one part, which is at the same node: that of the part within this one. */
+  around(inner) {
+    const { fronts, others, absent } = inner;
+    return new Form(this.opening + this.front(0) + inner.opening, fronts, inner.closing + this.closing, others, absent);
+  }
 }
+
+/** How the values of a factored row are written, by the rule that was chosen behind what is in front. */
+class ByChoice {
+  constructor(forms) {
+    this.forms = forms;
+  }
+
+  at(tree, node) {
+    return this.forms.get(tree.rule(tree.children(node).pop() + 1));
+  }
+}
+
+/** What has no text of its own: what is below it belongs to what is around. */
+const THROUGH = Symbol("through");
 
 /** How a value is written that may be absent: what stands for it then. */
 class Option {
@@ -59,13 +79,16 @@ function entries(names) {
 /** The form of a value of one part. */
 const wrapped = (name) => new Form(`{"${name}": `, [""], "}");
 
-/** The form of a list with separators, whose items follow these. */
-const listed = (fronts, separator) => new Form('{"list": [', fronts, `], "separator": "${separator}"}`);
+/** The form of a list with separators, whose items follow these. What stands behind them is left out. */
+const listed = (fronts, separator) => new Form('{"list": [', fronts, `], "separator": "${separator}"}`, [null]);
 
 /** The form of a node, or its whole text. */
 function formOf(form, tree, node) {
   if (form instanceof Map) {
     return form.get(tree.rule(node + 1));
+  }
+  if (form instanceof ByChoice) {
+    return form.at(tree, node);
   }
   if (form instanceof Option) {
     return tree.child(node, 0) < 0 ? form.absent : PRESENT;
@@ -73,8 +96,11 @@ function formOf(form, tree, node) {
   return typeof form === "function" ? form(tree, node) : form;
 }
 
-/** The value of a node as text. A form is a Form, an Option, a Map by the rule below, or gives the whole text. */
-function write(tree, root, forms) {
+/**
+ * The value of a node as text. A form is a Form, an Option, a Map by the rule below, a ByChoice, THROUGH, or gives the whole
+ * text. The node may have one of its own.
+ */
+function write(tree, root, forms, own = null) {
   const behind = tree.behind(root);
   const pieces = [];
   const frames = [{ form: PRESENT, depth: tree.depth(root) - 1, parts: 0 }];
@@ -84,8 +110,11 @@ function write(tree, root, forms) {
     const depth = tree.depth(node);
     const form = depth > limit ? null : forms[tree.rule(node)];
     limit = Math.min(limit, depth);
-    if (form !== null && isWanted(pieces, frames, depth)) {
-      const found = formOf(form, tree, node);
+    if (form === THROUGH) {
+      end(pieces, frames, depth);
+      limit = Infinity;
+    } else if (form !== null && isWanted(pieces, frames, depth)) {
+      const found = node === root && own ? own : formOf(form, tree, node);
       if (typeof found === "string") {
         pieces.push(found);
       } else {
@@ -118,4 +147,4 @@ function isWanted(pieces, frames, depth) {
   return front !== null;
 }
 
-module.exports = { FOLLOWING, Form, ITEMS, Option, entries, listed, wrapped, write };
+module.exports = { ByChoice, FOLLOWING, Form, ITEMS, Option, THROUGH, entries, listed, wrapped, write };

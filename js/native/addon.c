@@ -1,21 +1,22 @@
 /*
  * The calls of the C library for Node, by Node-API.
  *
- *     syntax(bytes, room)   writes four numbers a node to a Uint32Array where there is room for all, and answers {status,
- *                           count}; or {status, rest} of a text that isn't read whole
- *     explain(bytes, start) why the text from a byte on is refused: {status, place, message, hint, hintKind, hintPlace,
- *                           hintLength}; `hint` is the line of the message that has it
- *     expected(bytes, start)  what would go on there: {status, words}, with a zero behind each word
- *     explainPart(bytes, part), expectedPart(bytes, part)  the same of an unread part, which is a Uint32Array of its numbers
- *     recover(bytes, parts, nodes)  writes five numbers a part, and four a node, to Uint32Arrays where there is room for
- *                           all, and answers {status, parts, nodes, rest}
- *     format(bytes)         the bytes formatted; or {status, rest}
+ *     syntax(dialect, bytes, room)  writes four numbers a node to a Uint32Array where there is room for all, and answers
+ *                           {status, count}; or {status, rest} of a text that isn't read whole
+ *     explain(dialect, bytes, start)  why the text from a byte on is refused: {status, place, message, hint, hintKind,
+ *                           hintPlace, hintLength}; `hint` is the line of the message that has it
+ *     expected(dialect, bytes, start)  what would go on there: {status, words}, with a zero behind each word
+ *     explainPart(dialect, bytes, part), expectedPart(dialect, bytes, part)  the same of an unread part, which is a
+ *                           Uint32Array of its numbers
+ *     recover(dialect, bytes, parts, nodes)  writes five numbers a part, and four a node, to Uint32Arrays where there is
+ *                           room for all, and answers {status, parts, nodes, rest}
+ *     format(dialect, bytes)  the bytes formatted; or {status, rest}
  *     version()             the version of the library, a byte each for its three numbers
  *     rules()               how many rules its grammar has
  *     describe(code)        what the system says of an error's number
  *
- * lib/library.js loads it, and nothing but the package calls it. `bytes` is a Buffer that nobody else writes to. An
- * exception is only thrown of what is no such argument.
+ * lib/library.js loads it, and nothing but the package calls it. `dialect` is an enum weedle_dialect, `bytes` a Buffer that
+ * nobody else writes to. An exception is only thrown of what is no such argument.
  */
 #include <node_api.h>
 #include <stdint.h>
@@ -60,11 +61,29 @@ static bool bytes_of(napi_env env, napi_value value, struct bytes *bytes) {
     return true;
 }
 
-/* The same of the only argument of a call. */
-static bool only_bytes(napi_env env, napi_callback_info info, struct bytes *bytes) {
-    size_t count = 1;
-    napi_value argument;
-    return napi_get_cb_info(env, info, &count, &argument, NULL, NULL) == napi_ok && bytes_of(env, argument, bytes);
+/* The most arguments of a call, a dialect and a Buffer first; those that aren't given are undefined. */
+#define ARGUMENTS 4
+
+/* A text and the dialect by which it is read, with the other arguments of the call. */
+struct text {
+    uint32_t dialect;
+    struct bytes bytes;
+    napi_value others[ARGUMENTS - 2];
+};
+
+static bool text_of(napi_env env, napi_callback_info info, struct text *text) {
+    size_t count = ARGUMENTS;
+    napi_value arguments[ARGUMENTS];
+    if (napi_get_cb_info(env, info, &count, arguments, NULL, NULL) != napi_ok) {
+        failed(env, "no arguments");
+        return false;
+    }
+    if (napi_get_value_uint32(env, arguments[0], &text->dialect) != napi_ok) {
+        failed(env, "a dialect is wanted");
+        return false;
+    }
+    memcpy(text->others, arguments + 2, sizeof text->others);
+    return bytes_of(env, arguments[1], &text->bytes);
 }
 
 static bool set_number(napi_env env, napi_value object, const char *name, double number) {
@@ -99,29 +118,26 @@ static bool numbers_of(napi_env env, napi_value value, void **numbers, size_t *c
 }
 
 static napi_value syntax(napi_env env, napi_callback_info info) {
-    size_t count = 2, room;
-    napi_value arguments[2];
-    struct bytes bytes;
+    struct text text;
+    size_t room;
     void *nodes;
     struct weedle_answer answer;
-    if (napi_get_cb_info(env, info, &count, arguments, NULL, NULL) != napi_ok
-        || !bytes_of(env, arguments[0], &bytes) || !numbers_of(env, arguments[1], &nodes, &room)) {
+    if (!text_of(env, info, &text) || !numbers_of(env, text.others[0], &nodes, &room)) {
         return NULL;
     }
-    uint32_t status = weedle_syntax(bytes.data, bytes.length, nodes, room / NUMBERS, &answer);
+    uint32_t status = weedle_syntax_in(
+        text.dialect, text.bytes.data, text.bytes.length, nodes, room / NUMBERS, &answer);
     bool is_counted = status == WEEDLE_STATUS_READ || status == WEEDLE_STATUS_NO_ROOM;
     return answer_of(env, status, is_counted ? "count" : "rest", is_counted ? answer.count : answer.rest);
 }
 
-/* The bytes of a Buffer and a place in them. */
-static bool bytes_and_place(napi_env env, napi_callback_info info, struct bytes *bytes, size_t *place) {
-    size_t count = 2;
-    napi_value arguments[2];
+/* A text and a place in it. */
+static bool text_and_place(napi_env env, napi_callback_info info, struct text *text, size_t *place) {
     uint32_t given;
-    if (napi_get_cb_info(env, info, &count, arguments, NULL, NULL) != napi_ok || !bytes_of(env, arguments[0], bytes)) {
+    if (!text_of(env, info, text)) {
         return false;
     }
-    if (napi_get_value_uint32(env, arguments[1], &given) != napi_ok) {
+    if (napi_get_value_uint32(env, text->others[0], &given) != napi_ok) {
         failed(env, "a place is wanted");
         return false;
     }
@@ -152,14 +168,15 @@ static napi_value refusal_of(napi_env env, uint32_t status, const struct weedle_
 }
 
 static napi_value explain(napi_env env, napi_callback_info info) {
-    struct bytes bytes;
+    struct text text;
     size_t start;
     struct weedle_refusal refusal;
     char message[MESSAGE_ROOM];
-    if (!bytes_and_place(env, info, &bytes, &start)) {
+    if (!text_and_place(env, info, &text, &start)) {
         return NULL;
     }
-    uint32_t status = weedle_explain_from(bytes.data, bytes.length, start, message, sizeof message, &refusal);
+    uint32_t status = weedle_explain_in(
+        text.dialect, text.bytes.data, text.bytes.length, start, message, sizeof message, &refusal);
     if (status != WEEDLE_STATUS_REFUSED) {
         message[0] = 0;
     }
@@ -179,24 +196,23 @@ static napi_value words_of(
 }
 
 static napi_value expected(napi_env env, napi_callback_info info) {
-    struct bytes bytes;
+    struct text text;
     size_t start;
     struct weedle_expected_words found;
     char words[MESSAGE_ROOM];
-    if (!bytes_and_place(env, info, &bytes, &start)) {
+    if (!text_and_place(env, info, &text, &start)) {
         return NULL;
     }
-    uint32_t status = weedle_expected(bytes.data, bytes.length, start, words, sizeof words, &found);
+    uint32_t status = weedle_expected_in(
+        text.dialect, text.bytes.data, text.bytes.length, start, words, sizeof words, &found);
     return words_of(env, status, &found, words);
 }
 
-/* The bytes of a Buffer and the numbers of a part. */
-static bool bytes_and_part(napi_env env, napi_callback_info info, struct bytes *bytes, struct weedle_part *part) {
-    size_t count = 2, numbers;
-    napi_value arguments[2];
+/* A text and the numbers of one of its parts. */
+static bool text_and_part(napi_env env, napi_callback_info info, struct text *text, struct weedle_part *part) {
+    size_t numbers;
     void *data;
-    if (napi_get_cb_info(env, info, &count, arguments, NULL, NULL) != napi_ok || !bytes_of(env, arguments[0], bytes)
-        || !numbers_of(env, arguments[1], &data, &numbers)) {
+    if (!text_of(env, info, text) || !numbers_of(env, text->others[0], &data, &numbers)) {
         return false;
     }
     if (numbers != PART_NUMBERS) {
@@ -208,14 +224,15 @@ static bool bytes_and_part(napi_env env, napi_callback_info info, struct bytes *
 }
 
 static napi_value explain_part(napi_env env, napi_callback_info info) {
-    struct bytes bytes;
+    struct text text;
     struct weedle_part part;
     struct weedle_refusal refusal;
     char message[MESSAGE_ROOM];
-    if (!bytes_and_part(env, info, &bytes, &part)) {
+    if (!text_and_part(env, info, &text, &part)) {
         return NULL;
     }
-    uint32_t status = weedle_explain_part(bytes.data, bytes.length, &part, message, sizeof message, &refusal);
+    uint32_t status = weedle_explain_part_in(
+        text.dialect, text.bytes.data, text.bytes.length, &part, message, sizeof message, &refusal);
     if (status != WEEDLE_STATUS_REFUSED) {
         message[0] = 0;
     }
@@ -223,30 +240,31 @@ static napi_value explain_part(napi_env env, napi_callback_info info) {
 }
 
 static napi_value expected_part(napi_env env, napi_callback_info info) {
-    struct bytes bytes;
+    struct text text;
     struct weedle_part part;
     struct weedle_expected_words found;
     char words[MESSAGE_ROOM];
-    if (!bytes_and_part(env, info, &bytes, &part)) {
+    if (!text_and_part(env, info, &text, &part)) {
         return NULL;
     }
-    uint32_t status = weedle_expected_part(bytes.data, bytes.length, &part, words, sizeof words, &found);
+    uint32_t status = weedle_expected_part_in(
+        text.dialect, text.bytes.data, text.bytes.length, &part, words, sizeof words, &found);
     return words_of(env, status, &found, words);
 }
 
 static napi_value recover(napi_env env, napi_callback_info info) {
-    size_t count = 3, part_room, room;
-    napi_value arguments[3], object;
-    struct bytes bytes;
+    size_t part_room, room;
+    napi_value object;
+    struct text text;
     void *parts, *nodes;
     struct weedle_recovered found;
-    if (napi_get_cb_info(env, info, &count, arguments, NULL, NULL) != napi_ok
-        || !bytes_of(env, arguments[0], &bytes) || !numbers_of(env, arguments[1], &parts, &part_room)
-        || !numbers_of(env, arguments[2], &nodes, &room)) {
+    if (!text_of(env, info, &text) || !numbers_of(env, text.others[0], &parts, &part_room)
+        || !numbers_of(env, text.others[1], &nodes, &room)) {
         return NULL;
     }
-    uint32_t status = weedle_recover(
-        bytes.data, bytes.length, parts, part_room / PART_NUMBERS, nodes, room / NUMBERS, &found);
+    uint32_t status = weedle_recover_in(
+        text.dialect, text.bytes.data, text.bytes.length, parts, part_room / PART_NUMBERS, nodes, room / NUMBERS,
+        &found);
     if (napi_create_object(env, &object) != napi_ok || !set_number(env, object, "status", status)
         || !set_number(env, object, "parts", (double)found.parts)
         || !set_number(env, object, "nodes", (double)found.nodes)
@@ -257,27 +275,27 @@ static napi_value recover(napi_env env, napi_callback_info info) {
 }
 
 /* Formats a text, with so much room, and answers the status. `out` is to be freed. */
-static uint32_t lay_out(struct bytes bytes, size_t room, char **out, struct weedle_formatted *formatted) {
+static uint32_t lay_out(const struct text *text, size_t room, char **out, struct weedle_formatted *formatted) {
     *out = room <= PTRDIFF_MAX ? malloc(room ? room : 1) : NULL;
     if (*out == NULL) {
         formatted->rest = 0;
         return WEEDLE_STATUS_NO_MEMORY;
     }
-    return weedle_format(bytes.data, bytes.length, *out, room, formatted);
+    return weedle_format_in(text->dialect, text->bytes.data, text->bytes.length, *out, room, formatted);
 }
 
 static napi_value format(napi_env env, napi_callback_info info) {
-    struct bytes bytes;
+    struct text text;
     char *out;
     struct weedle_formatted formatted;
     napi_value buffer;
-    if (!only_bytes(env, info, &bytes)) {
+    if (!text_of(env, info, &text)) {
         return NULL;
     }
-    uint32_t status = lay_out(bytes, 2 * bytes.length + MORE, &out, &formatted);
+    uint32_t status = lay_out(&text, 2 * text.bytes.length + MORE, &out, &formatted);
     if (status == WEEDLE_STATUS_NO_ROOM) {
         free(out);
-        status = lay_out(bytes, formatted.length, &out, &formatted);
+        status = lay_out(&text, formatted.length, &out, &formatted);
     }
     if (status == WEEDLE_STATUS_READ
         && napi_create_buffer_copy(env, formatted.length, out, NULL, &buffer) != napi_ok) {

@@ -42,7 +42,8 @@ function assertRefused({ text, wanted }) {
   const hint = wanted.hint ?? "";
   assert.deepEqual([refused.byteStart, refused.bytePlace], [wanted.rest, wanted.place], text);
   assert.equal(`${refused.line}:${refused.column}`, wanted.at, text);
-  assert.equal(`${refused.message}\n`, `${wanted.at}: ${wanted.says}\n${wanted.shows}${hint}`, text);
+  const readToday = refused.isReadToday ? `today's WebIDL reads it: dialect: "today"\n` : "";
+  assert.equal(`${refused.message}\n`, `${wanted.at}: ${wanted.says}\n${wanted.shows}${hint}${readToday}`, text);
   assert.equal(refused.hint, hint.replace(/\n$/, "") || null, text);
   assert.ok(refused.expected !== "" && wanted.says.includes(refused.expected), text);
   assert.equal(Buffer.byteLength(text.slice(0, refused.start)), wanted.rest, text);

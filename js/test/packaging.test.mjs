@@ -6,6 +6,7 @@ import path from "node:path";
 import test from "node:test";
 
 import * as weedle from "../index.mjs";
+import * as today from "../today.mjs";
 import { ADDON, HOME, TARGET, TOP, inRoom, python, run, wanting } from "./support.mjs";
 
 const skip = wanting("npm", "sh", "tar");
@@ -24,11 +25,17 @@ import * as all from "weedle";
 import { Definition, parse } from "weedle";
 const [definition] = parse(${JSON.stringify(TEXT)});
 const same = createRequire(import.meta.url)("weedle");
+const today = await import("weedle/today");
+const [read] = parse("[Exposed=*] interface A {};", { dialect: "today" });
 console.log(definition instanceof Definition.Interface, Object.keys(same).every((name) => all[name] === same[name]));
+console.log(read instanceof today.Definition.Interface, same.today.Definition === today.Definition);
 `;
 const TYPED = `
 import { Definition, parse } from "weedle";
+import { Definition as Today } from "weedle/today";
 const definition: Definition | undefined = parse("")[0];
+const [first] = parse("", { dialect: "today" });
+export const list: number = first instanceof Today.Interface ? first.value.attributes.length : 0;
 export const name: string = definition instanceof Definition.Interface ? definition.value.identifier.value : "";
 `;
 
@@ -73,7 +80,7 @@ function printed(room, name, text) {
 test("installed with no network", { skip }, () => {
   inProject((room) => {
     assert.equal(printed(room, "a.cjs", COMMON), `${weedle.version} Window Promise definitions Refused\n`);
-    assert.equal(printed(room, "a.mjs", MODULE), "true true\n");
+    assert.equal(printed(room, "a.mjs", MODULE), "true true\ntrue true\n");
     fs.writeFileSync(path.join(room, "a.webidl"), "interface A {");
     const npx = npm(room, ["exec", "weedle", "a.webidl"]);
     assert.deepEqual([npx.status, npx.out.split("\n").slice(-2)], [1, ["1 file, 1 refused", ""]]);
@@ -128,13 +135,17 @@ test("each class that is exported is declared, and the other way round", { skip:
       ...names.map((name) => `weedle.${name}`),
       ...Object.keys(weedle.term).map((name) => `weedle.term.${name}`),
       ...names.flatMap((name) => variantsOf(weedle[name]).map((it) => `weedle.${name}.${it}`)),
+      ...Object.keys(today).map((name) => `weedle.today.${name}`),
+      ...Object.keys(today).flatMap((name) => variantsOf(today[name]).map((it) => `weedle.today.${name}.${it}`)),
     ];
     fs.writeFileSync(path.join(room, "a.mts"), `import * as weedle from "weedle";\nexport const all: unknown[] = [${all.join()}];\n`);
     const done = run("tsc", ["--strict", "--noEmit", "--target", "es2021", "--module", "node16", "a.mts"], { cwd: room });
     assert.deepEqual([done.status, done.out], [0, ""]);
-    const declared = fs.readFileSync(path.join(HOME, "lib/written/values.d.ts"), "utf8");
-    for (const [, name] of declared.matchAll(/^export (?:abstract class|declare const) (\w+)/gm)) {
-      assert.ok(name in weedle, name);
+    for (const [file, all] of [["values", weedle], ["today", today]]) {
+      const declared = fs.readFileSync(path.join(HOME, `lib/written/${file}.d.ts`), "utf8");
+      for (const [, name] of declared.matchAll(/^export (?:abstract class|declare const) (\w+)/gm)) {
+        assert.ok(name in all, name);
+      }
     }
   });
 });
@@ -144,12 +155,14 @@ const variantsOf = (kind) =>
   typeof kind === "function" && kind.prototype instanceof weedle.Choice ? Object.keys(kind).filter((it) => /^[A-Z]/.test(it)) : [];
 
 test("each field that a class has is declared, with its doc", () => {
-  const declared = fs.readFileSync(path.join(HOME, "lib/written/values.d.ts"), "utf8");
-  for (const [name, kind] of Object.entries(weedle)) {
-    const isStruct = typeof kind === "function" && Object.hasOwn(kind, "fields") && !/^(Value|Choice|Listed)$/.test(name);
-    const body = declared.split(new RegExp(`^export abstract class ${name}\\b.*\\{$`, "m"))[1]?.split("\n}")[0] ?? "";
-    for (const field of isStruct ? Object.keys(kind.fields) : []) {
-      assert.match(body, new RegExp(`(\\*/|^ {3}\\*/)\\n  readonly ${field}: `, "m"), `${name}.${field}`);
+  for (const [file, all] of [["values", weedle], ["today", today]]) {
+    const declared = fs.readFileSync(path.join(HOME, `lib/written/${file}.d.ts`), "utf8");
+    for (const [name, kind] of Object.entries(all)) {
+      const isStruct = typeof kind === "function" && Object.hasOwn(kind, "fields") && !/^(Value|Choice|Listed)$/.test(name);
+      const body = declared.split(new RegExp(`^export abstract class ${name}\\b.*\\{$`, "m"))[1]?.split("\n}")[0] ?? "";
+      for (const field of isStruct ? Object.keys(kind.fields) : []) {
+        assert.match(body, new RegExp(`(\\*/|^ {3}\\*/)\\n  readonly ${field}: `, "m"), `${name}.${field}`);
+      }
     }
   }
 });

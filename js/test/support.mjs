@@ -67,6 +67,26 @@ function* filesIn(archive) {
   }
 }
 
+/** What the rows of the grammar say of texts by today's rules: of each the values as lines of JSON, or null. */
+export function todayByRows(texts) {
+  const program = `
+import json, sys
+from rows.today_values import TodayTable
+from shared.tree_json import plain
+table = TodayTable()
+for text in json.load(open(sys.argv[1], encoding="utf-8")):
+    end = table.ends.end_of(text.encode(), "TODAY_DEFINITIONS")
+    is_whole = end == len(text.encode())
+    print(json.dumps([json.dumps(plain(it), ensure_ascii=False) for it in table.read(text)[1]] if is_whole else None))
+`;
+  const lines = inRoom((room) => {
+    const file = path.join(room, "texts.json");
+    fs.writeFileSync(file, JSON.stringify(texts));
+    return String(python(program, file)).trimEnd().split("\n");
+  });
+  return lines.map((line) => JSON.parse(line));
+}
+
 /** The cases of a folder of tests/: each with its name, its text and what is wanted of it. */
 export function casesOf(folder) {
   const unpack = "import lzma,sys\nsys.stdout.buffer.write(lzma.open(sys.argv[1]).read())";

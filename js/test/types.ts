@@ -2,8 +2,9 @@
 
 import {
   Choice, ConstValue, Definition, Definitions, Identifier, InterfaceMember, MayBeNull, Name, Node, NotUtf8, Refused, Role, Span, Type,
-  Value, format, parse, syntax, term,
+  TodayDefinitions, Value, format, parse, recover, syntax, term, today,
 } from "weedle";
+import * as alone from "weedle/today";
 
 /** Each definition by its kind: `value` is narrowed by the variant, and by instanceof. */
 function told(definition: Definition): string {
@@ -78,6 +79,31 @@ try {
   console.log(numberOf, start, told(all[0]!), roles, spans, identifiers, enums, one, marks, nodes, string, bytes, terminals, choices);
 }
 
+/** Each piece by today's rules: a definition by its kind, or a docstring. */
+function pieceText(piece: TodayDefinitions[number]): string {
+  if (!(piece instanceof Choice)) {
+    return piece.value;
+  }
+  const { attributes, docstrings } = piece.value;
+  const lists = attributes.map((it) => [...it.body].map((one) => one.variant).join());
+  const isInterface = piece instanceof alone.Definition.Interface && piece.variant === "Interface";
+  const first: today.InterfaceMember | undefined = isInterface ? piece.value.members.body[0] : undefined;
+  return [...docstrings.map((it) => it.value), ...lists, first?.value.kind].join();
+}
+
+const pieces: TodayDefinitions = parse("[Exposed=*] interface A {};", { dialect: "today" });
+const older: Definitions = parse("interface A {};", { dialect: "weedle2" });
+const each: Definitions[] = ["A includes B;"].map((it) => parse(it));
+const wildcards: today.ExtendedAttributeWildcard[] = [...pieces.find(today.ExtendedAttributeWildcard)];
+const whole: today.Definition[] = recover("", { dialect: "today" }).definitions;
+const laidOut: string = format("A includes B;", { dialect: "today" });
+const todayNode: Node = syntax("", { dialect: "today" });
+console.log(pieces.map(pieceText), older, each, wildcards, whole, laidOut, todayNode);
+
+// @ts-expect-error no dialect has this name
+parse("", { dialect: "tomorrow" });
+// @ts-expect-error the options are an object
+parse("", "today");
 // @ts-expect-error nobody makes a value
 new Definition.Enum();
 // @ts-expect-error nor a name

@@ -40,6 +40,33 @@ const ROLES = Object.freeze({
   identifier_list: "ExtendedAttributeValue",
   tail_identifier_comma: "ExtendedAttributeValue",
   identifier_or_string: "ExtendedAttributeValue",
+  today_callback: "Callback",
+  today_callback_interface: "CallbackInterface",
+  today_interface: "Interface",
+  today_mixin: "Mixin",
+  today_namespace: "Namespace",
+  today_dictionary: "Dictionary",
+  today_partial_interface: "PartialInterface",
+  today_partial_mixin: "PartialMixin",
+  today_partial_dictionary: "PartialDictionary",
+  today_partial_namespace: "PartialNamespace",
+  today_enum: "Enum",
+  today_typedef: "Typedef",
+  today_includes: "Includer",
+  today_implements: "Implementer",
+  today_const: "Const",
+  today_attribute_member: "Attribute",
+  today_mixin_attribute: "Attribute",
+  today_namespace_attribute: "Attribute",
+  today_dictionary_member: "DictionaryMember",
+  today_optional_argument: "Argument",
+  today_required_argument: "Argument",
+  today_attribute_arg_list: "ExtendedAttribute",
+  today_attribute_named_arg_list: "ExtendedAttribute",
+  today_attribute_wildcard: "ExtendedAttribute",
+  today_attribute_number: "ExtendedAttribute",
+  today_attribute_strings: "ExtendedAttribute",
+  today_attribute_numbers: "ExtendedAttribute",
 });
 
 /** What a name stands for, by that rule, where it has read a name before. */
@@ -47,6 +74,9 @@ const LATER = Object.freeze({
   extended_attribute_named_arg_list: "ExtendedAttributeValue",
   includes_statement_definition: "Included",
   implements_definition: "Implemented",
+  today_attribute_named_arg_list: "ExtendedAttributeValue",
+  today_includes: "Included",
+  today_implements: "Implemented",
 });
 
 module.exports = { LATER, ROLES };

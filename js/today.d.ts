@@ -1,0 +1,1 @@
+export * from "./lib/written/today.js";
