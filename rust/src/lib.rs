@@ -19,7 +19,8 @@
 //! - A mismatch has the code [`ErrorKind::Fail`] and the whole input; weedle2 has those of one of its combinators.
 //! - A text that nests too deep is [`Err::Failure`]; weedle2 overflows the stack.
 //!
-//! [`syntax()`] is beside that: the nodes of a text, with comments and whitespace.
+//! [`syntax()`] is beside that: the nodes of a text, with comments and whitespace. [`syntax::syntax_in`] gives those of
+//! today's WebIDL too, as of `[Exposed=*] interface A {};`; [`parse`] and the types are weedle2's.
 
 #![warn(missing_docs)]
 

@@ -37,6 +37,26 @@ impl Node {
     }
 }
 
+/// The grammar by which a text is read.
+#[derive(Clone, Copy, Debug, Default, PartialEq, Eq, Hash)]
+pub enum Dialect {
+    /// weedle2's rules, which read `interface A {};`.
+    #[default]
+    Weedle2,
+    /// Those of today's WebIDL, which read what weedle2's read, and more, as `[Exposed=*] interface A {};`.
+    Today,
+}
+
+impl Dialect {
+    /// The rule that reads a whole text.
+    fn whole(self) -> u16 {
+        match self {
+            Dialect::Weedle2 => rules::DEFINITIONS,
+            Dialect::Today => rules::TODAY_DEFINITIONS,
+        }
+    }
+}
+
 /// Why there is no syntax tree.
 #[derive(Clone, Copy, Debug, PartialEq, Eq, Hash)]
 pub enum Fault {
@@ -77,7 +97,29 @@ impl std::error::Error for Fault {}
 ///
 /// A [`Fault`]: the text isn't read whole, memory is refused, or the text is longer than 4 GB.
 pub fn syntax(text: &str) -> Result<Vec<Node>, Fault> {
-    let (nodes, rest) = library::nodes_of(rules::DEFINITIONS, text)?;
+    syntax_in(text, Dialect::Weedle2)
+}
+
+/// The same by the rules of a dialect, as of `[Exposed=*] interface A {};` by today's.
+///
+/// There are types of weedle2's tree alone. By today's rules the node of the whole text is `today_definitions`. Each node
+/// below it is a `today_piece`: a definition, or a docstring, whitespace or a comment that no definition follows.
+///
+/// ```
+/// use weedle::syntax::{syntax_in, Dialect};
+///
+/// let text = "[Exposed=*] interface Window { attribute ObservableArray<Node> nodes; };";
+/// let nodes = syntax_in(text, Dialect::Today)?;
+/// let types = nodes.iter().filter(|it| it.name() == "today_type");
+/// assert_eq!(types.map(|it| it.text_in(text)).collect::<Vec<_>>(), ["ObservableArray<Node> ", "Node"]);
+/// # Ok::<(), weedle::syntax::Fault>(())
+/// ```
+///
+/// # Errors
+///
+/// A [`Fault`], as of [`syntax`].
+pub fn syntax_in(text: &str, dialect: Dialect) -> Result<Vec<Node>, Fault> {
+    let (nodes, rest) = library::nodes_of(dialect.whole(), text)?;
     if rest == text.len() {
         Ok(nodes)
     } else {

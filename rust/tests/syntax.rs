@@ -1,6 +1,6 @@
 //! The nodes of a text.
 
-use weedle::syntax::{syntax, Fault, Node};
+use weedle::syntax::{syntax, syntax_in, Dialect, Fault, Node};
 
 const TEXT: &str = "interface A {}; // é\nA includes B;";
 
@@ -41,6 +41,39 @@ fn dense_texts_get_the_room_that_they_need() {
     let nodes = syntax(&text).unwrap();
     assert!(nodes.len() > 2 * text.len());
     assert_eq!(read_by("identifier_text", &nodes, &text).len(), 10_003);
+}
+
+#[test]
+fn todays_rules_read_more() {
+    let text = "[Exposed=*] interface A { async_iterable<long>; };";
+    assert_eq!(syntax(text), Err(Fault::Refused(0)));
+    assert_eq!(syntax_in(text, Dialect::Weedle2), syntax(text));
+    let nodes = syntax_in(text, Dialect::Today).unwrap();
+    assert_eq!(read_by("today_definitions", &nodes, text), [text]);
+    let members = read_by("today_interface_member", &nodes, text);
+    assert_eq!(members, ["async_iterable<long>; "]);
+    assert_eq!(read_by("identifier_text", &nodes, text), ["Exposed", "A"]);
+}
+
+#[test]
+fn both_dialects_read_what_weedle2_reads() {
+    let nodes = syntax_in(TEXT, Dialect::Today).unwrap();
+    assert_eq!(read_by("identifier_text", &nodes, TEXT), ["A", "A", "B"]);
+    assert_eq!(syntax_in(TEXT, Dialect::default()), syntax(TEXT));
+    assert_eq!(syntax_in("enum", Dialect::Today), Err(Fault::Refused(0)));
+    let rest = "interface A {}; enum";
+    assert_eq!(syntax_in(rest, Dialect::Today), Err(Fault::Refused(16)));
+}
+
+#[test]
+fn todays_rules_read_what_nests_deep() {
+    let text = format!(
+        "typedef {}long{} A;",
+        "sequence<".repeat(5_000),
+        ">".repeat(5_000)
+    );
+    let nodes = syntax_in(&text, Dialect::Today).unwrap();
+    assert_eq!(read_by("today_sequence_type", &nodes, &text).len(), 5_000);
 }
 
 #[test]
