@@ -16,7 +16,7 @@ def texts_of(rules):
     found = {}
     for it in rules:
         if it.shape == "Marked":
-            found[it.name] = next(bytes_of[part] for part in it.row[1] if part in bytes_of)
+            found[it.name] = next((bytes_of[part] for part in it.row[1] if part in bytes_of), None)
         elif it.shape.startswith("Kept") or it.shape == "Joined":
             found[it.name] = None
     return found

@@ -2,7 +2,6 @@
 
 Its rules have numbers above those of weedle2's, and read weedle2's trivia, symbols, keywords, names and literals. No rule
 of weedle2's reads one of these. What weedle2's `DEFINITIONS` reads whole, `TODAY_DEFINITIONS` reads whole too, and more.
-The library reads by weedle2's rules alone so far: these are described here, and tried by their texts (tests/today.toml).
 
 Members and definitions are factored from the left: docstrings, then extended attributes, then of which kind it is. So a
 descent without a memo reads the attributes of a member once, where weedle2's rows read them again for each kind.
@@ -66,12 +65,14 @@ bracketed("GENERICS", "TODAY_RECORD_TYPES")
 seq("TODAY_RECORD_TYPE", "RECORD", "GENERICS_TODAY_RECORD_TYPES", doc="A record, as `record<DOMString, [Clamp] octet>`.")
 bracketed("PARENTHESIZED", "LIST1_TODAY_UNION_MEMBER_TYPE_OR", "TODAY_UNION_TYPE", "A union, as `(long or DOMString)`.")
 may_be_null("TODAY_UNION_TYPE")
+first("TODAY_WORD_TYPE", "BIG_INT", "FLOAT16_ARRAY", "BIG_INT64_ARRAY", "BIG_UINT64_ARRAY", "SHARED_ARRAY_BUFFER",
+      "UNDEFINED", doc="A word that is a type, and is none in weedle2's rules, as `bigint`.")
+first("TODAY_GENERIC_TYPE", "TODAY_SEQUENCE_TYPE", "TODAY_ASYNC_SEQUENCE_TYPE", "TODAY_FROZEN_ARRAY_TYPE",
+      "TODAY_OBSERVABLE_ARRAY_TYPE", "TODAY_RECORD_TYPE", doc="A type over others, as `sequence<long>`.")
 first("TODAY_NON_ANY_TYPE", "TODAY_PROMISE_TYPE",
       *[may_be_null(x) for x in [
           "INTEGER_TYPE", "FLOATING_POINT_TYPE", *[x for x in TERMINAL_TYPES if x != "SEQUENCE_TYPE"],
-          "BIG_INT", "FLOAT16_ARRAY", "BIG_INT64_ARRAY", "BIG_UINT64_ARRAY", "SHARED_ARRAY_BUFFER", "UNDEFINED",
-          "TODAY_SEQUENCE_TYPE", "TODAY_ASYNC_SEQUENCE_TYPE", "TODAY_FROZEN_ARRAY_TYPE", "TODAY_OBSERVABLE_ARRAY_TYPE",
-          "TODAY_RECORD_TYPE", NAME]],
+          "TODAY_WORD_TYPE", "TODAY_GENERIC_TYPE", NAME]],
       doc="A type that is neither `any` nor a union, as `long?`.")
 first("TODAY_KEY_TYPE", "BYTE_STRING", "DOM_STRING", "USV_STRING", "TODAY_NON_ANY_TYPE", doc="The type of a record's keys.")
 seq("TODAY_RECORD_TYPES", "TODAY_KEY_TYPE", "COMMA", ATTRIBUTED, doc="A record's two types, as `DOMString, [Clamp] octet`.")

@@ -27,7 +27,7 @@ from shared.crates import TOP
 # How often it is looked whether a program is built, and for how many seconds one is built at most.
 MOMENT, PATIENCE = 0.05, 3_600
 # The crate of the library for C, and its tests.
-LIBRARY, TESTS_IN_C = "weedle_c", ("test_weedle", "test_recovery", "test_hostile")
+LIBRARY, TESTS_IN_C = "weedle_c", ("test_weedle", "test_recovery", "test_dialects", "test_hostile")
 # Over how many texts a program is run by `rt try`.
 CASES = 40
 

@@ -41,6 +41,7 @@ MORE, PART = 10, 10
 # The function of weedle_check that times a reader, its readers, of which `parse_quick` is a look and descent, and what frees.
 TIMED, LETTING_GO = "weedle_check::timing::time_reader", "weedle_idl::definition::Definition::drop"
 DESCENT, TABLE = "weedle_front::descent::parse_by_descent", "weedle_front::reader::parse"
+MEMO = "weedle_front::bounded::parse_bounded"
 LOOK = "weedle_nesting::look::look_over"
 # What a definition begins with, what it repeats, and a slip at its end; where a byte order mark stands no change is tried.
 REFUSED = {
@@ -109,10 +110,10 @@ def of_readers(name, text, short, wanted):
         print(f"  weedle2: {(more - one) / MORE / len(data):.0f} instructions a byte")
     listed = (instructions([LIST], text)[0] - instructions([LIST])[0]) / len(data)
     calls = calls_of(instructions([PORT, "--time", part])[1])
-    taken = {it: calls.get((TIMED, it), (1, 0)) for it in (DESCENT, LOOK, TABLE, LETTING_GO)}
-    descent, look, table = (taken[it][1] / taken[it][0] for it in (DESCENT, LOOK, TABLE))
-    going = taken[LETTING_GO][1] / (taken[DESCENT][0] + taken[TABLE][0])
-    readers = {"parse_by_descent": descent, "parse_quick": look + descent, "parse": table}
+    taken = {it: calls.get((TIMED, it), (1, 0)) for it in (DESCENT, LOOK, MEMO, TABLE, LETTING_GO)}
+    descent, look, memo, table = (taken[it][1] / taken[it][0] for it in (DESCENT, LOOK, MEMO, TABLE))
+    going = taken[LETTING_GO][1] / (taken[DESCENT][0] + taken[MEMO][0] + taken[TABLE][0])
+    readers = {"parse_by_descent": descent, "parse_quick": look + descent, "parse_bounded": memo, "parse": table}
     print("".join(f"  port: {it} {(count + going) / len(short.encode()):.1f} instructions a byte\n" for it, count in readers.items())
           + f"  port: {listed:.0f} instructions a byte, with the list written")
 

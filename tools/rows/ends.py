@@ -1,10 +1,11 @@
 """Where the rules of the grammar end in a text, and which are tried and fail, as quick as Python goes.
 
 A rule's end is worked out once at a place, and only where it is asked for, so what is known of a text is what was
-tried in it, as docs/GRAMMAR.md has that. nodes.py says what a rule reads directly, table_reader.py what it gives.
+tried in it, as docs/GRAMMAR.md has that. nodes.py says what a rule reads directly, table_reader.py what it gives,
+dialects.py by which rules a whole text is read.
 """
 
-from description import webidl as grammar
+from description import today, webidl as grammar
 from description.classes import CLASSES
 
 # What is known of a rule that fails.
@@ -64,11 +65,11 @@ class Ends:
     def unmet(self):
         """The furthest byte at which a rule without parts was tried and failed, and those that did, in the rules' order."""
         failed = [
-            (place, rule) for rule, known in self.known.items() if rule in grammar.NUMBER and ROWS[rule][0] in PLAIN
+            (place, rule) for rule, known in self.known.items() if rule in today.NUMBER and self.rows[rule][0] in PLAIN
             for place, end in known.items() if end == FAILS
         ]
         furthest = max(place for place, _ in failed)
-        return furthest, sorted((rule for place, rule in failed if place == furthest), key=grammar.NUMBER.get)
+        return furthest, sorted((rule for place, rule in failed if place == furthest), key=today.NUMBER.get)
 
     # What a row reads: a function from a place to an end.
     def bytes(self, wanted):
@@ -171,7 +172,7 @@ class Ends:
     def if_(self, parts, number, last):
         """A row `If`: the last part is read where the part of this number gave something."""
         at = self.at
-        given = ROWS[parts[number]]
+        given = self.rows[parts[number]]
 
         def end(place):
             places = [place]
@@ -185,5 +186,6 @@ class Ends:
         return end
 
 
-# The rows as they are.
+# The rows as they are: weedle2's, and these with today's behind them.
 NOW = Ends(ROWS)
+TODAY = Ends({rule.name: rule.row for rule in today.RULES})

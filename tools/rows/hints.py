@@ -2,12 +2,14 @@
 
 It is what docs/USING.md says under "What is said of a refused text", read by ends.py; nothing is taken from
 the port. A hint is a place in bytes and a line of words. Here what changes may take together has no limit but that of nesting,
-by brackets: of long extended attributes more may be told here.
+by brackets: of long extended attributes more may be told here. A changed text is read again by the rules of a dialect; the
+keywords, and what begins a definition, are weedle2's in both.
 """
 
 import re
 from itertools import islice
 
+from rows.dialects import WEEDLE2
 from rows.ends import NOW, ROWS
 from rows.words import position, words
 from write import grammar
@@ -178,7 +180,7 @@ def fits_closing(sign, behind):
     return not behind or behind == b"[" or behind.startswith(b"///") or behind in OPENS_DEFINITION
 
 
-def mends(text, start, place, tokens, change):
+def mends(text, start, place, tokens, change, dialect=WEEDLE2):
     """Whether the definition is read to its end with a change, past what is changed and up to the place at least; and
     what stands behind it may begin another.
     """
@@ -189,7 +191,7 @@ def mends(text, start, place, tokens, change):
     changed = text[start:at] + put + text[at + taken:end]
     if nests_deep(changed):
         return False
-    return NOW.is_whole(changed)
+    return dialect.is_whole(changed)
 
 
 def braces(text, tokens, at, taken, put):
@@ -232,7 +234,7 @@ def may_begin(text, place):
     return place == len(text) or bool(re.match(rb"[A-Za-z_\[]|///", text[place:place + 3]))
 
 
-def comes_beyond(text, start, place, tokens, change):
+def comes_beyond(text, start, place, tokens, change, dialect=WEEDLE2):
     """Whether the definition is read further with a change by more than the member that is changed: beyond the second
     `;` behind the place.
     """
@@ -246,8 +248,8 @@ def comes_beyond(text, start, place, tokens, change):
     changed = text[start:at] + put + text[at + taken:end]
     if nests_deep(changed):
         return False
-    NOW.end_of(changed)
-    return len(changed) - NOW.unmet()[0] < end - beyond
+    dialect.end_of(changed)
+    return len(changed) - dialect.ends.unmet()[0] < end - beyond
 
 
 def past_semicolon(text, place):
@@ -268,28 +270,28 @@ def past_token(text, place):
     return NOW.at["TRIVIA"](kind_at(text, first)[1].end()) if first < len(text) else first
 
 
-def unmet_texts(text, start):
+def unmet_texts(text, start, dialect=WEEDLE2):
     """The texts of which it is said that one would go on at the furthest place."""
-    NOW.end_of(text[start:])
-    return {word.strip("`").encode() for word in words(NOW.unmet()[1]) if word.startswith("`")}
+    dialect.end_of(text[start:])
+    return {word.strip("`").encode() for word in words(dialect.ends.unmet()[1], dialect) if word.startswith("`")}
 
 
-def found(text, start, place):
+def found(text, start, place, dialect=WEEDLE2):
     """Of bytes whose definition at `start` is read up to `place`: where, how many bytes are taken, what is put there and what is
     said; the second and third are None where no change is told. None where nothing is found.
     """
     tokens = tokens_of(text, start, place)
     if said := fact(text, start, place, tokens):
         return said[0], None, None, said[1]
-    tried = list(islice(changes(text, place, tokens, unmet_texts(text, start)), MOST_TRIES))
+    tried = list(islice(changes(text, place, tokens, unmet_texts(text, start, dialect)), MOST_TRIES))
     for does_help in (mends, comes_beyond):
         for change in tried:
-            if does_help(text, start, place, tokens, change):
+            if does_help(text, start, place, tokens, change, dialect):
                 return change
     return None
 
 
-def line(text, start, place):
+def line(text, start, place, dialect=WEEDLE2):
     """The line that is written of a hint, or None."""
-    hint = found(text.encode(), start, place)
+    hint = found(text.encode(), start, place, dialect)
     return hint and "{}:{}: {}\n".format(*position(text, hint[0]), hint[3])

@@ -8,7 +8,8 @@ import json
 import re
 from threading import Lock
 
-from rows.ends import FAILS, NOW, PLAIN
+from rows.dialects import WEEDLE2
+from rows.ends import FAILS, PLAIN
 from shared.tree_json import unescaped
 
 LINE = re.compile(r'((?:  )*)(\w+) (\d+)\.\.(\d+)(?: "(.*)")?')
@@ -72,15 +73,15 @@ KINDS = {
 }
 
 
-def nodes_of(text):
+def nodes_of(text, dialect=WEEDLE2):
     """The nodes of a text that is read whole, in preorder: depth, name, start, end, and of a leaf its bytes, else None."""
     with ONE_TEXT:
-        NOW.take(text)
-        return nodes_by(NOW, text)
+        dialect.ends.take(text)
+        return nodes_by(dialect.ends, text, dialect.start)
 
 
-def nodes_by(ends, text):
-    waiting, nodes = [("DEFINITIONS", 0, 0)], []
+def nodes_by(ends, text, start):
+    waiting, nodes = [(start, 0, 0)], []
     while waiting:
         rule, place, depth = waiting.pop()
         below = parts_of(ends, rule, place)

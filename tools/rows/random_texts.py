@@ -2,14 +2,17 @@
 
 What is made mostly is read whole. It needn't be: a choice takes the first alternative that fits,
 so a text that is made along one row may be read along another, or not at all.
+
+The rows are weedle2's, or those of another dialect (dialects.py). Where they are weedle2's, today's rules change no text.
 """
 
 import random
 import re
 
-from description import webidl as grammar
+from description import today, webidl as grammar
+from rows.dialects import WEEDLE2
 
-ROWS = {rule.name: rule.row for rule in grammar.RULES}
+ROWS = {rule.name: rule.row for rule in today.RULES}
 # How many choices of more than the least a definition may take.
 FUEL = 60
 # The chance of what may be absent, of one item more, and of a name that is no word of the grammar.
@@ -62,15 +65,15 @@ NESTED = {rule for rule in ROWS if rule in reached(rule)}
 class Maker:
     """Texts of one seed, in their order."""
 
-    def __init__(self, seed, comments=True):
-        self.random, self.comments, self.fuel = random.Random(seed), comments, 0
+    def __init__(self, seed, comments=True, dialect=WEEDLE2):
+        self.random, self.comments, self.fuel, self.dialect = random.Random(seed), comments, 0, dialect
 
     def text(self):
         """Up to four definitions."""
         pieces = []
         for _ in range(self.random.choice((1, 1, 1, 2, 3, 4))):
             self.fuel = self.random.randrange(FUEL)
-            pieces += self.make("DEFINITION")
+            pieces += self.make(self.dialect.definition)
         return self.joined(pieces)
 
     def near(self, text):

@@ -2,18 +2,14 @@
 
 It is what docs/GRAMMAR.md says under "What is tried", read by ends.py. The words are those of USING and of
 the docs of `Expected`; nothing is taken from the port. Which rules begin a type, a value or a name it learns
-from the rows: they are those that fail where such a rule reads the empty text.
+from the rows: they are those that fail where such a rule reads the empty text. By which rules a text is read a
+dialect says (dialects.py).
 """
 
 from functools import cache
 
-from rows.ends import NOW, ROWS
+from rows.dialects import WEEDLE2
 
-# Kinds of what is read, each with a word of its own, and a rule that reads it: the first that fits is said.
-KINDS = (
-    ("a type", "TYPE"), ("a type", "NON_ANY_TYPE"), ("a type", "CONST_TYPE"), ("a value", "DEFAULT_VALUE"),
-    ("a value", "CONST_VALUE"), ("a name", "IDENTIFIER"),
-)
 # What begins a blank or a comment isn't said, since both may stand nearly everywhere.
 UNSAID = ("BYTES_LF", "BYTES_SLASH_SLASH", "BYTES_SLASH_STAR", "ONE_OF_BLANK")
 NAMED = {
@@ -29,27 +25,31 @@ CLASSES = {
 SHOWN = 6
 
 
-@cache
-def starts(rule):
+def starts(rule, dialect=WEEDLE2):
     """The rules without parts by which what the rule reads begins."""
-    NOW.end_of(b"", rule)
-    return {it for it in NOW.unmet()[1] if it not in UNSAID}
+    return starts_by(dialect.ends, rule)
 
 
-def word(rule, unmet):
+@cache
+def starts_by(ends, rule):
+    ends.end_of(b"", rule)
+    return {it for it in ends.unmet()[1] if it not in UNSAID}
+
+
+def word(rule, unmet, dialect=WEEDLE2):
     """The word for a rule that is unmet beside others."""
-    for kind, reader in KINDS:
-        if rule in starts(reader) and starts(reader) <= unmet:
+    for kind, reader in dialect.kinds:
+        if rule in starts(reader, dialect) and starts(reader, dialect) <= unmet:
             return kind
-    kind, what = ROWS[rule]
+    kind, what = dialect.ends.rows[rule]
     if rule in NAMED:
         return NAMED[rule]
     return f"`{what}`" if kind == "Bytes" else CLASSES[what]
 
 
-def words(unmet):
+def words(unmet, dialect=WEEDLE2):
     """The words for rules that are unmet, each once, in the order of the rules."""
-    return list(dict.fromkeys(word(rule, set(unmet)) for rule in unmet if rule not in UNSAID))
+    return list(dict.fromkeys(word(rule, set(unmet), dialect) for rule in unmet if rule not in UNSAID))
 
 
 def sentence(said):
@@ -65,8 +65,8 @@ def position(text, place):
     return before.count("\n") + 1, len(before) - before.rfind("\n")
 
 
-def refusal(text, rest):
+def refusal(text, rest, dialect=WEEDLE2):
     """Of a text whose rest from this byte on is refused: the furthest byte, and the sentence."""
-    NOW.end_of(text.encode()[rest:])
-    place, unmet = NOW.unmet()
-    return rest + place, sentence(words(unmet))
+    dialect.end_of(text.encode()[rest:])
+    place, unmet = dialect.ends.unmet()
+    return rest + place, sentence(words(unmet, dialect))

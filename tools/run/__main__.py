@@ -7,6 +7,7 @@ WHAT is one of these; a program that isn't named is the one that the gate builds
 
     cases       values, syntax trees, refusals, outlines and statuses, by weedle_check and weedle_list
     rust        the same values and rests by the Rust package
+    today       texts of today's WebIDL, by weedle_check --today: nodes and messages
     table       where things stand and how far texts are read, by weedle_table
     layouts     whether what weedle_format lays out says the same
     prints      whether what weedle_check writes anew says the same

@@ -23,9 +23,11 @@ from concurrent.futures import ThreadPoolExecutor
 from pathlib import Path
 
 from measure.compare_with_weedle2 import BETWEEN, parts_between, renamed
+from rows.dialects import WEEDLE2
 from rows.nodes import nodes_of, printed
 from run.programs import Built, Tried, built_at, meant, told
 from run.report import Failure, compared
+from run.todays import line_of, without_line
 from run.worked_runs import RUNS, failures_of, runs
 from shared.case_files import TESTS, cases_of, compact, folders, numbered
 from shared.crates import Unfit
@@ -45,7 +47,7 @@ def said_of(case, name):
     wanted = case.wanted
     if case.is_read:
         return ""
-    return f"{name}:{wanted['at']}: {wanted['says']}\n{wanted['shows']}{wanted.get('hint', '')}"
+    return f"{name}:{wanted['at']}: {wanted['says']}\n{wanted['shows']}{wanted.get('hint', '')}{line_of(case.text)}"
 
 
 def check_all(program, cases, room):
@@ -119,21 +121,22 @@ def trees_in(part):
     return trees
 
 
-def syntax_all(program, cases, room):
+def syntax_all(program, cases, room, dialect=WEEDLE2):
     """A failure, or None, for each case that is read whole: the nodes of its syntax tree, by the rows."""
     ended = program.run(["--syntax"], written(cases, room), room)
     out, last = ended.stdout.decode(errors="replace"), last_line(len(cases), 0)
-    parts = re.split(r"^(?=definitions )", out[:len(out) - len(last)], flags=re.M)[1:] if out.endswith(last) else []
+    first = f"(?={dialect.start.lower()} )"
+    parts = re.split(f"^{first}", out[:len(out) - len(last)], flags=re.M)[1:] if out.endswith(last) else []
     if len(parts) != len(cases) or ended.stderr or ended.returncode:
         if len(cases) > 1:
-            return [failure for case in cases for failure in syntax_all(program, [case], room)]
+            return [failure for case in cases for failure in syntax_all(program, [case], room, dialect)]
         return [Failure(cases[0].text, "a syntax tree", told(ended))]
-    return [same_nodes(case.text, part) for case, part in zip(cases, parts)]
+    return [same_nodes(case.text, part, dialect) for case, part in zip(cases, parts)]
 
 
-def same_nodes(text, part):
+def same_nodes(text, part, dialect=WEEDLE2):
     """The first node that differs, if one does."""
-    wanted, came = nodes_of(text.encode()), printed(part.split("\n")[:-1])
+    wanted, came = nodes_of(text.encode(), dialect), printed(part.split("\n")[:-1])
     if wanted == came:
         return None
     ends = [it + [None] * (max(map(len, (wanted, came))) - len(it)) for it in (wanted, came)]
@@ -215,6 +218,7 @@ def answer_of_real(program, file, wanted):
     """What weedle_check answers of a file, as what is wanted of one."""
     ended = program.run(["--errors", "1", "--tree", str(file)])
     *lines, _ = ended.stdout.decode(errors="replace").split("\n")[:-1] or [""]
+    lines = without_line("".join(f"{line}\n" for line in lines)).split("\n")[:-1]
     if ended.returncode == 0:
         trees = [tree for tree in trees_in("\n".join([*lines, ""])) if isinstance(tree, dict)]
         return {

@@ -1,10 +1,11 @@
 """Sows syntax errors in random texts, and compares what weedle_recover makes of them with what is wanted.
 
-    python3 tools/run errors [PROGRAM] [--texts N] [--errors N ..] [--seed N] [--verbose]
-    python3 tools/run errors [PROGRAM] --files FILE.. [--errors N ..]
+    python3 tools/run errors [PROGRAM] [--texts N] [--errors N ..] [--seed N] [--today] [--verbose]
+    python3 tools/run errors [PROGRAM] --files FILE.. [--errors N ..] [--today]
 
 Of N texts (100 where it is left out) of 3 kB and more, with 1, 3 and 10 errors each (sown_errors.py), it looks at this. With
---files the texts are those of files, which aren't the repository's.
+--files the texts are those of files, which aren't the repository's. With --today the random texts have what today's WebIDL has,
+and program and rows go by its rules.
 
 - By the rows of the grammar (tools/rows/ends.py): the parts join to the text; the rule of each part is read there from its
   start to its end, or fails at its start; there are as many nodes as the rows give.
@@ -19,16 +20,16 @@ a text 97 of 100 have to be told, 3 of 100 may be false at most, and all definit
 import random
 from pathlib import Path
 
-from rows.ends import FAILS, NOW
+from rows.dialects import WEEDLE2
+from rows.ends import FAILS
 from rows.nodes import parts_of
 from run import sown_errors
-from run.programs import add_program, meant
+from run.programs import add_dialect, add_program, dialect_of, meant_in
 from run.report import Wrong
+from run.todays import without_line
 
 LEAST = 3_000
 WANTED = {"told": 97, "false": 3, "definitions": 100, "members": 99}
-MEMBERS = {"INTERFACE_MEMBER": "interface A{", "DICTIONARY_MEMBER": "dictionary A{", "MIXIN_MEMBER": "interface mixin A{",
-           "NAMESPACE_MEMBER": "namespace A{"}
 
 
 class Part:
@@ -43,59 +44,59 @@ class Part:
 def parts_in(program, text):
     """The parts of a text, and how many nodes are laid down."""
     ended = program.run([], given=text.encode())
-    *lines, last = ended.stdout.decode().splitlines() or [""]
+    *lines, last = without_line(ended.stdout.decode()).splitlines() or [""]
     if ended.returncode or not last.endswith(" nodes"):
         raise ValueError(f"status {ended.returncode}: {ended.stderr.decode(errors='replace')[:300]}")
     return [Part(line) for line in lines], int(last.split()[0])
 
 
-def wrong_by_rows(raw, parts, nodes):
+def wrong_by_rows(raw, parts, nodes, dialect=WEEDLE2):
     """What is wrong of the parts by the rows of the grammar, or None."""
-    NOW.take(raw)
+    dialect.ends.take(raw)
     place, counted = 0, 0
     for part in parts:
-        end = NOW.at[part.rule](part.start)
+        end = dialect.ends.at[part.rule](part.start)
         if part.start != place or part.definition > part.start:
             return f"{part.rule} begins at {part.start}"
         if (end == FAILS) == part.is_read or part.is_read and end != part.end:
             return f"{part.rule} at {part.start} ends at {end}"
-        counted += part.is_read and count_of(part.rule, part.start)
+        counted += part.is_read and count_of(part.rule, part.start, dialect)
         place = part.end
     if place != len(raw):
         return f"the last part ends at {place}"
     return None if counted == nodes else f"{nodes} nodes in place of {counted}"
 
 
-def count_of(rule, place):
+def count_of(rule, place, dialect=WEEDLE2):
     """How many nodes a rule has that is read at a place."""
     waiting, count = [(rule, place)], 0
     while waiting:
         count += 1
-        waiting += parts_of(NOW, *waiting.pop())
+        waiting += parts_of(dialect.ends, *waiting.pop())
     return count
 
 
-def is_whole(text):
-    return NOW.is_whole(text.encode())
+def is_whole(text, dialect=WEEDLE2):
+    return dialect.is_whole(text.encode())
 
 
-def told_at(raw, part):
+def told_at(raw, part, dialect=WEEDLE2):
     """The furthest byte to which the reading of an unread part comes, by the rows."""
     if part.start == part.end:
         return part.start
-    front = MEMBERS.get(part.rule, "").encode()
+    front = dialect.members.get(part.rule, "").encode()
     start = part.start if front else part.definition
-    NOW.end_of(front + raw[start:part.end])
-    return start + max(0, NOW.unmet()[0] - len(front))
+    dialect.end_of(front + raw[start:part.end])
+    return start + max(0, dialect.ends.unmet()[0] - len(front))
 
 
 def line_of(raw, place):
     return raw.count(b"\n", 0, place) + 1
 
 
-def lines_told(raw, part):
+def lines_told(raw, part, dialect=WEEDLE2):
     """The lines that an unread part tells: that of its furthest byte, and that of the word before it."""
-    place = told_at(raw, part)
+    place = told_at(raw, part, dialect)
     words = sown_errors.tokens_of(raw[part.definition:place].decode("latin-1"))
     before = part.definition + words[-1][0] if words else place
     return {line_of(raw, place), line_of(raw, before)}
@@ -130,13 +131,14 @@ def groups(parts):
 class Tally:
     """What came of all texts with so many errors."""
 
-    def __init__(self):
+    def __init__(self, dialect=WEEDLE2):
+        self.dialect = dialect
         self.errors = self.told = self.false = 0
         self.kept = {"definitions": [0, 0], "members": [0, 0]}
 
     def add(self, raw, parts, places):
         unread = [part for part in parts if not part.is_read]
-        told = [lines_told(raw, part) for part in unread]
+        told = [lines_told(raw, part, self.dialect) for part in unread]
         covers = []
         for first, behind in places:
             lines = set(range(line_of(raw, first), line_of(raw, behind - 1) + 1))
@@ -165,28 +167,30 @@ def clean(text):
     return " ".join(word for _, word in sown_errors.tokens_of(text))
 
 
-def read_in(raw, parts):
+def read_in(raw, parts, dialect=WEEDLE2):
     """The definitions and the members that are read, without comments; a definition by its own parts too."""
     whole, members = set(), set()
     for part in parts:
-        if part.is_read and part.rule == "DEFINITION":
+        is_definition = part.is_read and part.rule in (dialect.item, dialect.definition)
+        if is_definition:
             whole.add(clean(raw[part.start:part.end].decode()))
-        if part.is_read and part.rule in MEMBERS:
+        if part.is_read and part.rule in dialect.members:
             members.add(clean(raw[part.start:part.end].decode()))
-        if part.is_read and part.rule == "DEFINITION":
-            NOW.take(raw)
-            members |= {clean(raw[start:end].decode()) for start, end in members_below(part.start)}
+        if is_definition:
+            dialect.ends.take(raw)
+            below = members_below(part.rule, part.start, dialect)
+            members |= {clean(raw[start:end].decode()) for start, end in below}
     return whole, members
 
 
-def members_below(place):
-    waiting = [("DEFINITION", place)]
+def members_below(definition, place, dialect=WEEDLE2):
+    waiting = [(definition, place)]
     while waiting:
         rule, start = waiting.pop()
-        if rule in MEMBERS:
-            yield start, NOW.at[rule](start)
+        if rule in dialect.members:
+            yield start, dialect.ends.at[rule](start)
         else:
-            waiting += parts_of(NOW, rule, start)
+            waiting += parts_of(dialect.ends, rule, start)
 
 
 def wanted_of(definitions, errors):
@@ -203,37 +207,38 @@ def wanted_of(definitions, errors):
     return whole, members
 
 
-def errors_in(text, maker, count):
+def errors_in(text, maker, count, dialect=WEEDLE2):
     """So many errors, each of which alone makes the text unreadable, apart from one another."""
     errors = []
     while len(errors) < count:
         error = sown_errors.one_error(text, maker)
         if error is None or any(abs(error.place - other.place) < 3 for other in errors):
             continue
-        if not is_whole(sown_errors.sown(text, [error])[0]):
+        if not is_whole(sown_errors.sown(text, [error])[0], dialect):
             errors.append(error)
     return errors
 
 
-def tallied(program, texts, count, maker, verbose):
+def tallied(program, texts, count, wanted):
     """The tally of texts with so many errors each, and what the rows find wrong."""
-    tally, failures = Tally(), []
+    dialect, maker = dialect_of(wanted), random.Random(wanted.seed + count)
+    tally, failures = Tally(dialect), []
     for definitions in texts:
         text = sown_errors.joined(definitions)
-        errors = errors_in(text, maker, count)
+        errors = errors_in(text, maker, count, dialect)
         changed, places = sown_errors.sown(text, errors)
         raw = changed.encode()
         parts, nodes = parts_in(program, changed)
-        wrong = wrong_by_rows(raw, parts, nodes)
+        wrong = wrong_by_rows(raw, parts, nodes, dialect)
         if wrong:
             failures.append(Wrong(changed, wrong))
             continue
         before = tally.told
         tally.add(raw, parts, places)
-        if verbose and tally.told - before < count:
+        if wanted.verbose and tally.told - before < count:
             print([error.kind for error in sorted(errors, key=lambda error: error.place)], changed, sep="\n")
-        wanted, has = wanted_of(definitions, errors), read_in(raw, parts)
-        for kind, one, other in zip(("definitions", "members"), wanted, has):
+        without, has = wanted_of(definitions, errors), read_in(raw, parts, dialect)
+        for kind, one, other in zip(("definitions", "members"), without, has):
             tally.keep(kind, one, other)
     return tally, failures
 
@@ -241,7 +246,7 @@ def tallied(program, texts, count, maker, verbose):
 def texts_of(options):
     if options.files:
         return [[[Path(name).read_text()]] for name in options.files]
-    maker = sown_errors.Maker(options.seed)
+    maker = (sown_errors.TodayMaker if options.today else sown_errors.Maker)(options.seed)
     return [maker.text(LEAST) for _ in range(options.texts)]
 
 
@@ -255,6 +260,7 @@ def falls_short(count, figures):
 
 def add_arguments(parser):
     add_program(parser, "weedle_recover")
+    add_dialect(parser)
     parser.add_argument("--texts", type=int, default=100)
     parser.add_argument("--errors", type=int, nargs="+", default=[1, 3, 10])
     parser.add_argument("--seed", type=int, default=7)
@@ -263,9 +269,9 @@ def add_arguments(parser):
 
 
 def run(wanted, report):
-    program, texts = meant(wanted.program), texts_of(wanted)
+    program, texts = meant_in(wanted), texts_of(wanted)
     for count in wanted.errors:
-        tally, failures = tallied(program, texts, count, random.Random(wanted.seed + count), wanted.verbose)
+        tally, failures = tallied(program, texts, count, wanted)
         figures = tally.figures()
         said = ", ".join(f"{kind} {value:.1f}" for kind, value in figures.items())
         report.add(f"{count} errors a text", len(texts), failures, f"; {tally.errors} errors, of 100: {said}")

@@ -2,6 +2,7 @@
 
 import tomllib
 
+from run.texts import today_file
 from run.worked_runs import Run, runs
 from shared.case_files import TESTS
 
@@ -15,17 +16,31 @@ def run_of(what, text, **wanted):
 
 
 def of_worked_texts():
-    """Each worked text is laid out as is written by hand, which stays as it is; and others aren't read whole."""
+    """Each worked text is laid out as is written by hand, which stays as it is, and alike by today's rules; and others aren't
+    read whole."""
     worked = tomllib.loads(WORKED.read_text(encoding="utf-8"))
     refused = {"status": 1, "stderr_like": "(?s)<stdin>:.+"}
+    today = ["--today"]
     for it in worked["layout"]:
         layout = it.get("laid_out")
         if layout is None:
             yield run_of(it["what"], it["text"], **refused)
         else:
-            yield from (run_of(it["what"], text, stdout=layout) for text in (it["text"], layout))
+            for words in ([], today):
+                yield from (run_of(it["what"], text, arguments=words, stdout=layout) for text in (it["text"], layout))
+    for it in worked["today"]:
+        yield run_of(it["what"], it["text"], **refused)
+        yield from (run_of(it["what"], text, arguments=today, stdout=it["laid_out"]) for text in (it["text"], it["laid_out"]))
     for it in worked["partial"]:
         yield run_of(it["what"], it["text"], arguments=["--partial"], stdout=it["laid_out"], **refused)
+
+
+def runs_of_today():
+    """Each text of tests/today.toml that says so is formatted as is written by hand, which stays as it is."""
+    for it in today_file()["read"]:
+        if "laid_out" in it:
+            for text in (it["text"], it["laid_out"]):
+                yield run_of(it["name"], text, arguments=["--today"], stdout=it["laid_out"])
 
 
 def nested(times, inner):

@@ -5,6 +5,7 @@ import subprocess
 import sys
 from pathlib import Path
 
+from rows.dialects import TODAY, WEEDLE2
 from shared.crates import TOP, Unfit
 
 # What rt ci calls the second build of a program.
@@ -49,6 +50,17 @@ class Tried:
         return subprocess.CompletedProcess(words, ended.returncode, ended.stdout, b"")
 
 
+class With:
+    """A program that is given options in front of all other arguments."""
+
+    def __init__(self, program, options):
+        self.inner, self.options, self.program = program, options, program.program
+
+    def run(self, words, names=(), room=None, given=b""):
+        """How it ended with these arguments and files, behind the options."""
+        return self.inner.run([*self.options, *words], names, room, given)
+
+
 def told(ended):
     """What a program wrote and how it ended, in one text."""
     return f"status {ended.returncode}\n" + (ended.stdout + ended.stderr).decode(errors="replace")
@@ -70,6 +82,21 @@ def meant(path, is_tried=False):
     if not (Path(path) / "src/main.rt" if is_tried else Path(path)).is_file():
         raise Unfit(f"{path} is no {'crate of a program' if is_tried else 'program that is built'}")
     return (Tried if is_tried else Built)(str(Path(path).resolve()))
+
+
+def add_dialect(parser):
+    """Takes the option that has texts read by today's rules."""
+    parser.add_argument("--today", action="store_true", help="the texts are of today's WebIDL, and read by its rules")
+
+
+def dialect_of(wanted):
+    """The dialect that is asked for."""
+    return TODAY if wanted.today else WEEDLE2
+
+
+def meant_in(wanted, is_tried=False):
+    """The program that is named, with the option of the dialect that is asked for."""
+    return With(meant(wanted.program, is_tried), dialect_of(wanted).options)
 
 
 def built_at(path, names):

@@ -119,6 +119,39 @@ class Maker:
         return [f"{self.name()} includes {self.name()};\n\n"]
 
 
+# What today's WebIDL has more.
+TODAY_TYPES = (
+    "ObservableArray<Node>", "async_sequence<any>", "sequence<[Clamp] octet>", "bigint", "Float16Array", "(undefined or DOMString)",
+    "FrozenArray<[EnforceRange] unsigned long>", "record<DOMString, [Clamp] octet>",
+)
+
+
+class TodayMaker(Maker):
+    """Texts of today's WebIDL."""
+
+    def type(self):
+        return self.random.choice(TYPES + TODAY_TYPES)
+
+    def attributes(self):
+        lists = ("", "", "[Exposed=*]\n", "[Exposed=*, SecureContext]\n", "[Exposed=(Window,Worker)] [SecureContext]\n")
+        return self.random.choice(lists)
+
+    def namespace(self):
+        return self.body(f"namespace {self.name()}", lambda: self.random.choice((self.operation, self.constant))())
+
+    def interface_member(self):
+        return self.random.choice((super().interface_member, super().interface_member, self.iteration))()
+
+    def iteration(self):
+        arguments = f"({self.arguments()})" if self.random.random() < 0.3 else ""
+        return f"  async_iterable<{self.type()}>{arguments};\n"
+
+    def field(self):
+        required = "required [Clamp] octet" if self.random.random() < 0.2 else self.type()
+        default = "" if required.startswith("required") or self.random.random() < 0.7 else " = undefined"
+        return f"  {required} {self.member_name()}{default};\n"
+
+
 def joined(definitions):
     return "".join(piece for definition in definitions for piece in definition)
 

@@ -1,7 +1,7 @@
 """Asks weedle_table where definitions, members, values and names of texts stand and how far their reading comes, and compares
 that with what is wanted.
 
-    python3 tools/run table [PROGRAM] [--most N]
+    python3 tools/run table [PROGRAM] [--most N] [--today]
     python3 tools/run table --try crates/weedle_table [--most N]
 
 With --try it is the crate of weedle_table, which `rt try` builds and runs for each text; that takes a second and more a text,
@@ -11,14 +11,19 @@ The worked texts stand in tests/table.toml, with what is wanted of each by hand.
 (100 where N is left out, 0 for none), the rows of the grammar say what is wanted (tools/rows/nodes.py):
 which parts of the text are definitions, members and values, which are names, and which rules fail at the furthest place. A text
 that isn't read whole has no places and no names.
+
+With --today the program reads by the rules of today's WebIDL, and the rows are today's. The texts are then those of
+tests/today.toml, random ones by today's rows, and those of the folders.
 """
 
 import re
 import tomllib
 
-from rows.ends import NOW
+from rows.dialects import TODAY, WEEDLE2
 from rows.nodes import ONE_TEXT, nodes_of
-from run.programs import add_program, meant
+from rows.random_texts import Maker
+from run import texts
+from run.programs import add_dialect, add_program, dialect_of, meant_in
 from run.report import Wrong
 from shared.case_files import TESTS, cases_of, folders
 
@@ -29,6 +34,7 @@ KINDS = {
     "definition": "definition", "interface_member": "member", "mixin_member": "member", "namespace_member": "member",
     "dictionary_member": "member", "enum_variant": "value",
 }
+KINDS |= {f"today_{rule}": kind for rule, kind in KINDS.items()} | {"today_enum_value": "value"}
 # What the core of a part ends with.
 ENDS = {"definition": b";", "member": b";", "value": b'"'}
 BLANK = re.compile(rb"(?:[ \t\r\n]|//(?!/)[^\n]*(?:\n|\Z)|/\*.*?\*/)*", re.DOTALL)
@@ -91,10 +97,10 @@ def each_as_wanted(parts, wanted):
 
 
 class Table:
-    """The program, and what it says of texts."""
+    """The program, and what it says of texts by the rules of a dialect."""
 
-    def __init__(self, program):
-        self.program = program
+    def __init__(self, program, dialect=WEEDLE2):
+        self.program, self.dialect = program, dialect
 
     def lines(self, task, raw):
         """The lines that are printed but for the last, which says how many there are; None where the text is refused."""
@@ -140,10 +146,10 @@ def wrong_of_worked(table, row):
     return None
 
 
-def parts_by_rows(raw):
+def parts_by_rows(raw, dialect=WEEDLE2):
     """The spans of definitions, members and values, by the nodes of the rows, and those of names."""
     parts, names, start = [], [], 0
-    for _, name, first, end, _ in nodes_of(raw):
+    for _, name, first, end, _ in nodes_of(raw, dialect):
         if name in KINDS:
             parts.append((KINDS[name], (first, end)))
         if name == "opt_bytes_underscore":
@@ -153,24 +159,29 @@ def parts_by_rows(raw):
     return parts, names
 
 
-def diagnosis_by_rows(raw):
+def diagnosis_by_rows(raw, dialect=WEEDLE2):
     """The furthest place, and the rules that fail there, by the rows."""
     with ONE_TEXT:
-        NOW.end_of(raw)
-        place, rules = NOW.unmet()
+        dialect.end_of(raw)
+        place, rules = dialect.ends.unmet()
     return place, sorted(rule.lower() for rule in rules)
 
 
 def wrong_of_rows(table, case):
     """What is wrong of a text of tests/, or None."""
-    raw = case.text.encode()
-    said, wanted = table.diagnosis(raw), diagnosis_by_rows(raw)
+    return wrong_of_text(table, case.text, case.is_read)
+
+
+def wrong_of_text(table, text, is_read):
+    """What is wrong of a text, which is read whole or isn't, or None."""
+    raw = text.encode()
+    said, wanted = table.diagnosis(raw), diagnosis_by_rows(raw, table.dialect)
     if said != wanted:
         return f"{said} in place of {wanted}"
     places, names = table.lines("places", raw), table.lines("names", raw)
-    if not case.is_read:
+    if not is_read:
         return None if (places, names) == (None, None) else "it isn't refused"
-    wanted_parts, wanted_names = parts_by_rows(raw)
+    wanted_parts, wanted_names = parts_by_rows(raw, table.dialect)
     parts = parts_of(raw, places or [])[1]
     said = [(part.kind, part.span) for part in parts]
     if said != wanted_parts:
@@ -200,13 +211,34 @@ def failures_of(table, items, wrong_of, text_of):
         yield Wrong(text_of(item), wrong) if wrong else None
 
 
+def wrong_of_today(table, text):
+    """What is wrong of a text by today's rules, or None; the rows say whether it is read whole."""
+    with ONE_TEXT:
+        is_read = table.dialect.is_whole(text.encode())
+    return wrong_of_text(table, text, is_read)
+
+
+def texts_of_today(most):
+    """The texts that are read by today's rules, by their kinds."""
+    yield "today.toml", texts.of_today()
+    maker = Maker(7, dialect=TODAY)
+    yield "random by today's rows", [maker.text() for _ in range(most)]
+    for folder in texts.shallow_folders() if most else ():
+        yield folder, [case.text for case in cases_of(folder) if case.text is not None][:most]
+
+
 def add_arguments(parser):
     add_program(parser, "weedle_table", can_be_tried=True)
+    add_dialect(parser)
     parser.add_argument("--most", type=int, default=100)
 
 
 def run(wanted, report):
-    table = Table(meant(wanted.program, wanted.is_tried))
+    table = Table(meant_in(wanted, wanted.is_tried), dialect_of(wanted))
+    if wanted.today:
+        for kind, given in texts_of_today(wanted.most):
+            report.add(kind, len(given), failures_of(table, given, wrong_of_today, lambda text: text))
+        return
     worked = tomllib.loads(WORKED.read_text())["text"]
     report.add("worked", len(worked), failures_of(table, worked, wrong_of_worked, lambda row: row["text"]))
     for folder in folders() if wanted.most else ():

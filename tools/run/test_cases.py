@@ -250,4 +250,4 @@ class Runs(unittest.TestCase):
         runs = worked_runs.runs()
         self.assertEqual({run.program for run in runs}, set(run_cases.PROGRAMS))
         self.assertEqual(len(runs), len({(run.program, run.what) for run in runs}))
-        self.assertEqual(len(runs), 140)
+        self.assertEqual(len(runs), 148)

@@ -4,8 +4,10 @@ import random
 import tomllib
 import unittest
 
+from rows.dialects import TODAY
 from run.layout_runs import WORKED
-from run.layouts import SEEDS, has_blanks_at_end, pieces_of, sown
+from run.layouts import COMMENTS, SEEDS, bounded, has_blanks_at_end, pieces_of, sown
+from run.texts import today_file
 
 
 class Pieces(unittest.TestCase):
@@ -35,7 +37,30 @@ class Sown(unittest.TestCase):
         self.assertEqual(left, pieces_of(text))
 
 
+class Bounded(unittest.TestCase):
+    def test_a_comment_is_at_each_boundary(self):
+        made = bounded("[A=1] enum E{};", 1)
+        self.assertEqual(pieces_of(made)[1::2], pieces_of("[A=1] enum E{};"))
+        self.assertEqual(pieces_of(made)[:4], ["// c", "[", "/* a\n   b */", "A"])
+        self.assertTrue(made.endswith(";\n/* c */"))
+
+    def test_each_text_of_today_is_read_with_them(self):
+        for it in today_file()["read"]:
+            for first in range(len(COMMENTS)):
+                with self.subTest(it["name"], first=first):
+                    self.assertTrue(TODAY.is_whole(bounded(it["text"], first).encode()))
+
+
 class Worked(unittest.TestCase):
+    def test_a_layout_of_today_has_the_pieces_of_its_text(self):
+        found = [it for it in today_file()["read"] if "laid_out" in it]
+        self.assertGreater(len(found), 10)
+        for it in found:
+            with self.subTest(it["name"]):
+                self.assertEqual(pieces_of(it["laid_out"]), pieces_of(it["text"]))
+                self.assertFalse(has_blanks_at_end(it["laid_out"]))
+                self.assertTrue(TODAY.is_whole(it["laid_out"].encode()))
+
     def test_a_layout_has_the_pieces_of_its_text_and_no_blanks_at_the_ends_of_lines(self):
         for it in tomllib.loads(WORKED.read_text())["layout"]:
             with self.subTest(it["what"], text=it["text"]):

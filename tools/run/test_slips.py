@@ -5,9 +5,11 @@ import unittest
 from argparse import Namespace
 from unittest import mock
 
+from rows.dialects import TODAY
 from run import slips as run_slips
 from run.cases import last_line
 from run.report import Report
+from run.todays import LINE
 from shared.test_support import printed
 from write import slips as slips_page
 from write.slips import Slip, Told, slips
@@ -23,7 +25,9 @@ class ByRows:
         out = ""
         for name, slip in zip(names, slips()):
             wanted = slip.wanted()
-            out += f"{name}:" + (self.said or f"{wanted['at']}: {wanted['says']}\n{wanted['shows']}{wanted.get('hint', '')}")
+            last = LINE if TODAY.is_whole(slip.text.encode()) else ""
+            said = f"{wanted['at']}: {wanted['says']}\n{wanted['shows']}{wanted.get('hint', '')}{last}"
+            out += f"{name}:" + (self.said or said)
         return subprocess.CompletedProcess(words, 1, (out + last_line(len(names), len(names))).encode(), b"")
 
 

@@ -4,7 +4,8 @@ import subprocess
 import tomllib
 import unittest
 
-from run.table import WORKED, Table, diagnosis_by_rows, parts_by_rows, wrong_of_rows, wrong_of_worked
+from rows.dialects import TODAY
+from run.table import WORKED, Table, diagnosis_by_rows, parts_by_rows, wrong_of_rows, wrong_of_today, wrong_of_worked
 
 TEXT = "enum _E { /* c */ \"a\" };\n"
 PLACES = "definition 0..25 0..24 0..0 5..7\n  value 18..22 18..21 9..18 -\n1 definition\n"
@@ -97,3 +98,24 @@ class Rows(unittest.TestCase):
         for row in tomllib.loads(WORKED.read_text())["text"]:
             self.assertIsInstance(row["text"], str)
             self.assertLessEqual(set(row), {"text", "definitions", "names", "furthest", "fail", "other"})
+
+
+class Today(unittest.TestCase):
+    """A dictionary with a docstring and a wildcard, by hand: places of its parts and of its names."""
+
+    TEXT = "[A=*] dictionary D {\n  /// d\n  [Clamp] octet x;\n};\n"
+    PLACES = "definition 0..51 0..50 0..0 17..18\n  member 23..48 23..47 23..23 45..46\n1 definition\n"
+    NAMES = "ExtendedAttribute 1..2 A\nDictionary 17..18 D\nExtendedAttribute 32..37 Clamp\nDictionaryMember 45..46 x\n4 names\n"
+
+    def wrong(self, places, names):
+        furthest, fail = diagnosis_by_rows(self.TEXT.encode(), TODAY)
+        said = Answers(places, names, diagnosis=f"{furthest} {' '.join(fail)}\n")
+        return wrong_of_today(Table(said, TODAY), self.TEXT)
+
+    def test_what_is_right_passes(self):
+        self.assertIsNone(self.wrong(self.PLACES, self.NAMES))
+
+    def test_what_is_wrong_fails(self):
+        self.assertTrue(self.wrong(self.PLACES.replace("23..48", "31..48"), self.NAMES))
+        self.assertTrue(self.wrong(self.PLACES, self.NAMES.replace("4 names", "3 names").replace("Dictionary 17..18 D\n", "")))
+        self.assertRaises(ValueError, self.wrong, self.PLACES, self.NAMES.replace("45..46", "44..46"))

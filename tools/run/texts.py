@@ -1,17 +1,20 @@
 """Texts by their kinds, which a program is given in files, many at once; and what weedle2 reads of two."""
 
 import tempfile
+import tomllib
 from argparse import ArgumentParser, Namespace
 from collections.abc import Callable, Iterable, Iterator
 from pathlib import Path
 
 from measure.compare_with_weedle2 import Weedle2, files_of
 from run.report import Report, Wrong
-from shared.case_files import Case, cases_of, folders
+from shared.case_files import TESTS, Case, cases_of, folders
 from shared.command_line import runnable
 
 # How many texts a process is given, and of which folder weedle2 isn't asked, since it takes too long.
 TOGETHER, DEEP = 250, "deep"
+# The folders with texts that nest deep: of these today's rules don't say why they are refused.
+NESTED = (DEEP, "hostile")
 # What is wrong with each text that is read, or None, by the texts and an empty folder.
 Work = Callable[[list[str], Path], list[tuple[str, str | None]]]
 
@@ -32,6 +35,21 @@ def kinds(wanted: Namespace, is_taken: Callable[[Case], bool] = lambda case: Tru
             yield folder, texts
     if wanted.real:
         yield "real files", [file.read_bytes().decode() for file in files_of(wanted.real)][:wanted.most]
+
+
+def today_file() -> dict[str, list[dict[str, str]]]:
+    """What tests/today.toml has: texts that are read, and such that are refused."""
+    return tomllib.loads((TESTS / "today.toml").read_text(encoding="utf-8"))
+
+
+def of_today() -> list[str]:
+    """The texts of today's WebIDL that are written by hand, those that are refused too."""
+    return [it["text"] for rows in today_file().values() for it in rows]
+
+
+def shallow_folders() -> list[str]:
+    """The folders whose texts don't nest deep."""
+    return [folder for folder in folders() if folder not in NESTED]
 
 
 def add(report: Report, kind: str, texts: list[str], work: Work) -> None:

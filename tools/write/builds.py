@@ -244,7 +244,7 @@ def impl(it):
 
     ghost tree = {{ {it.tree} }};
 
-    fn build(alloc: Global, table: &Ends<'a>, _rule: Rule, at: At) -> BuildResult<{value}> {{
+    fn build(alloc: Global, table: Table<'_, 'a>, _rule: Rule, at: At) -> BuildResult<{value}> {{
         {body_of_choice(it) if is_choice else body_of_struct(it)}
     }}
 }}
@@ -299,9 +299,9 @@ class File:
 
     def use_lines(self):
         """What the code names, brought in."""
-        paths = {"std::alloc": {"Global"}, "weedle_rules": {"Ends", "Rule"}}
+        paths = {"std::alloc": {"Global"}, "weedle_rules": {"Rule"}}
         given = public_names(self.root, BASE)
-        for name in {"At", "Build", "BuildResult"}.union(*(it.calls() for it in self.built)):
+        for name in {"At", "Build", "BuildResult", "Table"}.union(*(it.calls() for it in self.built)):
             add(paths, f"crate::{given[name]}" if self.crate == BASE else BASE, name)
         for name in set().union(*(it.names() for it in self.built)):
             add(paths, self.path_of(name), name)

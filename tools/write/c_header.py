@@ -3,8 +3,8 @@
 tools/write/write_all.py runs it.
 
 The rules' numbers and names come from tools/description, the version from crates/weedle_c/src/lib.rt, the statuses from
-crates/weedle_c/src/status.rt and the kinds of hints from hint.rt beside it, each with its doc line. All else of the
-header stands in tools/write/weedle.h.in.
+crates/weedle_c/src/status.rt, the kinds of hints from hint.rt and the dialects from dialect.rt beside it, each with its doc
+line. All else of the header stands in tools/write/weedle.h.in.
 """
 
 import re
@@ -14,7 +14,7 @@ from pathlib import Path
 if not __package__:
     sys.path[0] = str(Path(__file__).resolve().parent.parent)
 
-from description.webidl import NUMBER, SECTIONS
+from description.today import NUMBER, SECTIONS
 from shared.command_line import refuse_writer
 from shared.crates import TOP, Unfit
 
@@ -68,10 +68,12 @@ def header_of(root):
     code = (source / "lib.rt").read_text(encoding="utf-8")
     statuses = (source / "status.rt").read_text(encoding="utf-8")
     hints = (source / "hint.rt").read_text(encoding="utf-8")
+    dialects = (source / "dialect.rt").read_text(encoding="utf-8")
     found = {
         "VERSION": found_in(VERSION, code, source / "lib.rt"), "COUNT": str(len(NUMBER)),
         "STATUSES": last_without_comma(list(constant_rows("WEEDLE_STATUS", statuses))),
         "HINTS": last_without_comma(list(constant_rows("WEEDLE_HINT", hints))),
+        "DIALECTS": last_without_comma(list(constant_rows("WEEDLE_DIALECT", dialects))),
         "RULES": last_without_comma(list(rule_rows())), "NAMES": last_without_comma(list(name_rows())),
     }
     return PLACEHOLDER.sub(lambda it: found[it[1]], TEMPLATE.read_text(encoding="utf-8"))

@@ -2,16 +2,16 @@
 
 tools/write/write_all.py runs it.
 
-The grammar stands in tools/description/webidl.py. The script writes, for each section S of it,
-in crates/weedle_grammar
+The grammar stands in tools/description/webidl.py, and today's behind it in today.py. The script
+writes, for each section S of them, in crates/weedle_grammar
     specs/Table/S.antt      the numbers of its rules, and their rows and shapes
     src/grammar/s.rt        the same for the program: numbers, constants of `Rule`, rows, names
     proofs/Takes/S.antt     which of its rules always take a byte
-in crates/weedle_rules
+for each section of the first, in crates/weedle_rules
     src/fill/place/s.rt     the filling of the cells of its rules at a place
 and over all sections, in the first specs/Table.antt, specs/Names.antt, specs/Bound.antt,
-src/grammar.rt, proofs/Takes.antt and the number RULES in src/lib.rt, in the second specs/Bound.antt,
-src/fill/place.rt and the number READS in src/lib.rt.
+src/grammar.rt, proofs/Takes.antt and the numbers RULES and TABLE_RULES in src/lib.rt, in the second
+specs/Bound.antt, src/fill/place.rt and the number READS in src/lib.rt.
 
 A rule has a constant of `Rule` where it has a doc line, or where a scanner names it. Its name in a
 syntax tree is that of its constant in small letters.
@@ -24,8 +24,10 @@ from pathlib import Path
 if not __package__:
     sys.path[0] = str(Path(__file__).resolve().parent.parent)
 
+from description import webidl
 from description.docs import comment
-from description.webidl import NUMBER, RULES, SCANNED, SECTIONS, parts_of
+from description.today import NUMBER, RULES, SECTIONS
+from description.webidl import SCANNED, parts_of
 from shared.command_line import refuse_writer
 from shared.crates import TOP
 from shared.written_places import in_logic, put
@@ -90,8 +92,8 @@ def reads_of(row):
 
 
 # Where all alternatives of a choice fail, each is looked at: so no smaller number holds, if the greatest is a choice's.
-MOST_READS = max(reads_of(r.row) for r in RULES)
-assert MOST_READS <= 100 and any(r.row[0] == "First" and reads_of(r.row) == MOST_READS for r in RULES)
+MOST_READS = max(reads_of(r.row) for r in webidl.RULES)
+assert MOST_READS <= 100 and any(r.row[0] == "First" and reads_of(r.row) == MOST_READS for r in webidl.RULES)
 
 
 for r in RULES:
@@ -307,6 +309,23 @@ def set_number(crate, name, value):
         path.write_text(re.sub(rf"pub const {name}: usize = \d+;", f"pub const {name}: usize = {value};", path.read_text()))
 
 
+def spec_counts():
+    """How many rules there are, and how many of them are weedle2's."""
+    put(TOP, f"{GRAMMAR}/specs/Bound.antt", f"""-- How many rules there are. {HEAD}
+use Rattle.std.specs.Prelude.{{ℕ}}
+
+-- one more than the greatest number
+abbrev pub rule_count : ℕ
+rule_count = {len(RULES)}
+
+-- the rules below it are weedle2's: a table of ends has these alone
+abbrev pub table_count : ℕ
+table_count = {len(webidl.RULES)}
+""")
+    set_number(GRAMMAR, "RULES", len(RULES))
+    set_number(GRAMMAR, "TABLE_RULES", len(webidl.RULES))
+
+
 def spec_number(crate, about, doc, name, value, constant):
     """A number in the specs of a crate, which its code has as a constant."""
     put(TOP, f"{crate}/specs/Bound.antt", f"""-- {about} {HEAD}
@@ -350,17 +369,17 @@ def code_fill_section(s):
 def code_fill_place():
     out = ["//! Works out the cells of one place, section by section.", "//!", f"//! {HEAD}", "",
            "ghost use Rattle.std.specs.Prelude.{◌≤◌, ◌+◌, ◌-◌, ◌*◌, length};",
-           f"ghost use {BOUND}.{{rule_count}};",
+           f"ghost use {BOUND}.{{table_count}};",
            "ghost use Rattle.weedle_rules.specs.Filling.{IsFilled};", "",
            "use crate::cell::Cell;", "use crate::reader::Reader;", ""]
-    out += [f"mod {s.module};" for s in SECTIONS]
-    out += ["", "/// Works out the cells of all rules at a place, where all behind it are known.",
+    out += [f"mod {s.module};" for s in webidl.SECTIONS]
+    out += ["", "/// Works out the cells of weedle2's rules at a place, where all behind it are known.",
             "#[inline(always)]", "pub(crate) fn fill_place<C: Cell>(reader: &mut Reader<'_, C>, place: usize)",
             "    requires within { place ≤ length reader.old.text }",
-            "    requires next { IsFilled reader.old reader.old.text ((length reader.old.text - place) * rule_count) }",
-            "    ensures { IsFilled reader.new reader.old.text ((length reader.old.text - place) * rule_count + rule_count) }",
+            "    requires next { IsFilled reader.old reader.old.text ((length reader.old.text - place) * table_count) }",
+            "    ensures { IsFilled reader.new reader.old.text ((length reader.old.text - place) * table_count + table_count) }",
             "{", "    reader.lay();"]
-    out += [f"    {s.module}::fill(reader, place);" for s in SECTIONS] + ["}"]
+    out += [f"    {s.module}::fill(reader, place);" for s in webidl.SECTIONS] + ["}"]
     put(TOP, f"{ENDS}/src/fill/place.rt", "\n".join(out) + "\n")
 
 
@@ -392,12 +411,11 @@ def main():
     for s in SECTIONS:
         spec_section(s)
         code_section(s)
+    for s in webidl.SECTIONS:
         code_fill_section(s)
     spec_table()
     spec_names()
-    spec_number(
-        GRAMMAR, "How many rules there are.", "one more than the greatest number", "rule_count", len(RULES), "RULES",
-    )
+    spec_counts()
     often = "how often a byte or a cell is looked at, at most, to work a rule out at a place"
     spec_number(ENDS, "How much is looked at for one cell.", often, "most_reads", MOST_READS, "READS")
     code_grammar()

@@ -10,9 +10,17 @@ COLUMNS = 110
 HEAD = "/*\n * {about}\n *\n * Written by tools/write/javascript_types.py, and not edited by hand.\n */\n\n"
 # The names that modules take from lib/value.js, and their declarations from lib/value.d.ts.
 VALUES = (
-    "Choice Decimal DecimalChoice FilledList Leaf Lines Listed Name Terminal Truth Value Whole WholeChoice Wrapped part"
+    "Choice Chosen Decimal DecimalChoice Factored FilledList Leaf Lines Listed Name Terminal Truth Value Whole WholeChoice "
+    "Wrapped chosenPart part"
 ).split()
 DECLARED = "Choice DecimalNumber Kind Listed Terminal Value WholeNumber".split()
+# A class may not have an accessor of this name.
+OTHERWISE = {"constructor": "constructor_"}
+# What all values have, which no field may be called.
+OF_ALL = set(
+    "kind span byteSpan position text parent comments trailing doc walk find equals jsonText toJSON shown variant "
+    "constructor".split()
+)
 # A name of a type in code, but for what stands behind a dot or in quotes.
 WORD = re.compile(r'(?<![.\w"])[A-Za-z]\w*')
 MODULE = re.compile(r"(?<![.\w])([a-z]+)\.[A-Z]")
@@ -26,6 +34,39 @@ def camel(name):
     """A name as JavaScript spells it: `returnType`. What is no word of a language has no `_` behind it."""
     first, *others = name.rstrip("_").split("_")
     return first + "".join(it.capitalize() for it in others)
+
+
+def field_name(name):
+    plain = camel(name)
+    return OTHERWISE.get(plain, plain)
+
+
+def abstract(head, name, base, declared, kind):
+    """A class that nobody makes but the package."""
+    body = "".join([f"  readonly kind: {string(kind)};\n", *declared])
+    return f"{head}export abstract class {name} extends {base} {{\n{body}}}\n"
+
+
+def choice_text(about, name, base, variants, more_of=""):
+    """The class of an enum, whose variants are classes in it, and what is declared of it.
+
+    A variant is its name, that in JSON, the type that it holds, and what is said of it.
+    """
+    head, code, inner, kinds = doc(about), [], [], []
+    for shown, in_json, value, said in variants:
+        more = f", {string(in_json)}" if shown != in_json else ""
+        code.append(f"  static {shown} = this.variant({string(shown)}{more});\n")
+        bases = f"Choice<{string(name)}, {string(shown)}, {value}>{more_of}"
+        inner.append(f"{doc(said, '  ')}  interface {shown} extends {bases} {{}}\n")
+        kinds.append(f"{doc(said, '  ')}  readonly {shown}: Kind<{name}.{shown}>;\n")
+    names = " | ".join(f"{name}.{shown}" for shown, *_ in variants)
+    union = "".join(f"\n  {it}" for it in wrap(f"| {names}", COLUMNS))
+    declared = (
+        f"{head}export type {name} ={union};\n"
+        f"export declare namespace {name} {{\n{''.join(inner)}}}\n"
+        f"export declare const {name}: Kind<{name}> & {{\n{''.join(kinds)}}};\n"
+    )
+    return f"{head}class {name} extends {base} {{\n{''.join(code)}}}\n", declared
 
 
 def doc(text, indent=""):
@@ -70,7 +111,7 @@ def declared_module(about, name, pieces):
     code = re.sub(r'"[^"]*"', "", code_of(body))
     values = brought_in(DECLARED, set(WORD.findall(code)))
     lines = f'import {values} from "../value.js";\n' if values else ""
-    for home in sorted({"term", "values"} & set(MODULE.findall(code))):
+    for home in sorted({"term", "today", "values"} & set(MODULE.findall(code))):
         lines += f'import type * as {home} from "./{home}.js";\n'
     separator = "\n" if lines else ""
     return HEAD.format(about=about) + f"{lines}{separator}{body}"

@@ -5,6 +5,7 @@ tools/write/write_all.py runs it. It writes below js/lib/written
     roles.js        what a name stands for, by the rule that reads it
     term.js         a class for each terminal
     values.js       the other types that the crates declare, in the order of weedle2's modules
+    today.js        the types of today's tree that weedle2's hasn't, by javascript_today.py
     makers.js       which class each rule makes
     *.d.ts          their declarations for TypeScript
 
@@ -15,30 +16,27 @@ spelling, as `returnType`. Roles are those of crates/weedle_places.
 import re
 import sys
 from pathlib import Path
-from textwrap import wrap
 
 if not __package__:
     sys.path[0] = str(Path(__file__).resolve().parent.parent)
 
+from description import today
 from description.names import upper
 from description.readings import Declared
-from description.webidl import BY_NAME, RULES
+from description.webidl import BY_NAME
 from shared.command_line import refuse_writer
 from shared.crates import TOP, Unfit
 from write.c_header import VERSION, found_in
-from write.javascript_text import camel, declared_module, doc, module, string
-from write.python_types import ABOUT, FIELDS, LIBRARY, LISTS, PARENTHESIZED, TUPLE, VARIANTS, Makers, Package
+from write.javascript_text import OF_ALL, abstract, choice_text, declared_module, doc, field_name, module, string
+from write.javascript_today import JavaScriptToday
+from write.python_types import ABOUT, LIBRARY, LISTS, PARENTHESIZED, TUPLE, VARIANTS, Makers, Package
 
 FOLDER = TOP / "js/lib/written"
 ROLES = "crates/weedle_places/src/role.rt"
-# A class may not have an accessor of this name.
-OTHERWISE = {"constructor": "constructor_"}
+# Its functions that say what the first name of a rule stands for.
+FIRST_ROLES = "of_definition of_member of_part of_today_definition of_today_part".split()
 VALUES = "The typed tree: literals, types, arguments, extended attributes, members and definitions."
-# What all values have, which no field may be called.
-OF_ALL = set(
-    "kind span byteSpan position text parent comments trailing doc walk find equals jsonText toJSON shown variant "
-    "constructor".split()
-)
+TODAY = "Today's tree: the types that weedle2's hasn't. What both have is in the other modules."
 # The base of what has one part without a name, of an enum that is a number, and what stands before octal digits.
 LEAVES = {
     "Identifier": "Name", "Docstring": "Lines", "BooleanLit": "Truth", "FloatValueLit": "Decimal",
@@ -50,11 +48,6 @@ PREFIXES = {"OctLit": "0o"}
 NUMBERS = {"Whole": "WholeNumber", "Decimal": "DecimalNumber"}
 # The base of a list with separators.
 BASES = {"Punctuated": "Listed", "PunctuatedNonEmpty": "FilledList"}
-
-
-def field_name(name):
-    plain = camel(FIELDS.get(name, name))
-    return OTHERWISE.get(plain, plain)
 
 
 class Classes:
@@ -129,26 +122,14 @@ class Classes:
 
     def enum(self, declaration):
         """The class of an enum, whose variants are classes in it."""
-        head, name = doc(declaration.doc), declaration.name
+        name = declaration.name
         base = CHOICES.get(name, "Choice")
         more_of = f", {NUMBERS[base.removesuffix('Choice')]}" if name in CHOICES else ""
-        code, inner, kinds = [], [], []
-        for variant, type_, about in self.package.parts(declaration):
-            shown = VARIANTS.get(variant, variant)
-            more = f", {string(variant)}" if shown != variant else ""
-            code.append(f"  static {shown} = this.variant({string(shown)}{more});\n")
-            value = self.type(type_, f"{name}.")
-            bases = f"Choice<{string(name)}, {string(shown)}, {value}>{more_of}"
-            inner.append(f"{doc(about, '  ')}  interface {shown} extends {bases} {{}}\n")
-            kinds.append(f"{doc(about, '  ')}  readonly {shown}: Kind<{name}.{shown}>;\n")
-        names = " | ".join(f"{name}.{VARIANTS.get(it, it)}" for it, _, _ in self.package.parts(declaration))
-        union = "".join(f"\n  {it}" for it in wrap(f"| {names}", 110))
-        declared = (
-            f"{head}export type {name} ={union};\n"
-            f"export declare namespace {name} {{\n{''.join(inner)}}}\n"
-            f"export declare const {name}: Kind<{name}> & {{\n{''.join(kinds)}}};\n"
-        )
-        return f"{head}class {name} extends {base} {{\n{''.join(code)}}}\n", declared
+        variants = [
+            (VARIANTS.get(variant, variant), variant, self.type(type_, f"{name}."), about)
+            for variant, type_, about in self.package.parts(declaration)
+        ]
+        return choice_text(declaration.doc, name, base, variants, more_of)
 
     def type(self, type_, within=""):
         """A type as TypeScript has it; within an enum whose variants may hide names, by its module."""
@@ -183,12 +164,6 @@ class Classes:
         return f"values.{name}" if home and within else name
 
 
-def abstract(head, name, base, declared, kind):
-    """A class that nobody makes but the package."""
-    body = "".join([f"  readonly kind: {string(kind)};\n", *declared])
-    return f"{head}export abstract class {name} extends {base} {{\n{body}}}\n"
-
-
 def numbered(name, number):
     """What a class declares more that is a number."""
     return f"export interface {name} extends {number} {{}}\n" if number else ""
@@ -198,6 +173,10 @@ class JavaScriptMakers(Makers):
     """What each rule makes, in JavaScript."""
 
     NEW = "new "
+
+    def __init__(self, classes):
+        super().__init__(classes.package)
+        self.classes = classes
 
     def listed(self, type_, rule):
         return f"new One({self.name(type_)}, {self.name(type_.arguments[1])})"
@@ -214,12 +193,17 @@ class JavaScriptMakers(Makers):
         return f"{module if module == 'term' else 'values'}.{name}"
 
     def text(self):
-        return MAKERS.format(makers="".join(f"  {rule}: {it},\n" for rule, it in sorted(self.makers.items())))
+        """The module that says so, of today's rules too."""
+        makers = self.makers | JavaScriptToday(self.classes).javascript_makers(self.makers)
+        return MAKERS.format(makers="".join(f"  {rule}: {it},\n" for rule, it in sorted(makers.items())))
 
 
 MAKERS = '''\
-const {{ Between, FOLLOWING, ITEMS, Many, Maybe, One, Together, Variants, tellMakers }} = require("../making.js");
+const {{
+  Between, FOLLOWING, ITEMS, Kinds, Many, Maybe, One, Pieces, Through, Together, Variants, Within, tellMakers,
+}} = require("../making.js");
 const term = require("./term.js");
+const today = require("./today.js");
 const values = require("./values.js");
 
 tellMakers({{
@@ -252,7 +236,7 @@ def role_rows(text, function):
 
 def roles(text):
     """The module of roles, and what is declared of it."""
-    first = [row for name in ("of_definition", "of_member", "of_part") for row in role_rows(text, name)]
+    first = [row for name in FIRST_ROLES for row in role_rows(text, name)]
     tables = [("ROLES", "the rule that reads it", first),
               ("LATER", "that rule, where it has read a name before", role_rows(text, "of_later"))]
     code = "".join(
@@ -279,8 +263,11 @@ def texts():
         names = [it.name for it, (code, _) in zip(declarations, pairs) if code]
         yield f"{name}.js", module(about, [code for code, _ in pairs if code], names)
         yield f"{name}.d.ts", declared_module(about, name, [declared for _, declared in pairs])
-    yield "makers.js", module("Which class each rule makes.", [JavaScriptMakers(package).text()])
-    names = "".join(f"  {string(it.name.lower())},\n" for it in RULES)
+    own = [*JavaScriptToday(classes).triples()]
+    yield "today.js", module(TODAY, [code for _, code, _ in own if code], [name for name, code, _ in own if code])
+    yield "today.d.ts", declared_module(TODAY, "today", [declared for _, _, declared in own])
+    yield "makers.js", module("Which class each rule makes.", [JavaScriptMakers(classes).text()])
+    names = "".join(f"  {string(it.name.lower())},\n" for it in today.RULES)
     version = found_in(VERSION, (TOP / LIBRARY).read_text(encoding="utf-8"), LIBRARY)
     about = "The rules of the grammar. What each reads is in docs/GRAMMAR.md."
     yield "grammar.js", module(about, [GRAMMAR.format(version=version, names=names)])

@@ -1,6 +1,7 @@
 """Python that is written: annotations, docs, and the lines of a module that bring in names."""
 
 import re
+from keyword import iskeyword
 from textwrap import wrap
 
 COLUMNS = 96
@@ -15,11 +16,11 @@ BASES = re.compile(r"^class \w+\(([^)]*)\)|^\w+ = (.*)$", re.M)
 CHECKED = "    import typing\n\n    from typing_extensions import TypeAlias\n\n"
 # The doc of a field.
 FIELD_DOC = re.compile(r'(= (?:part|word))\(\s*(?:"(?:\\.|[^"\\])*"\s*)+\)')
-TYPING = "ClassVar Dict Generic List Optional Tuple TypeVar".split()
+TYPING = "ClassVar Dict Generic List Optional Sequence Tuple TypeVar".split()
 VALUES = (
-    "Choice DecimalChoice Listed Result S T Terminal Value WholeChoice Wrapped part value_class word"
+    "Choice DecimalChoice Factored Kind Listed Result S T Terminal Value WholeChoice Wrapped part value_class word"
 ).split()
-LEAVES = "Decimal Leaf Lines Name Quoted Truth Whole".split()
+LEAVES = "Decimal LastLine Leaf Lines Name Quoted Truth Whole".split()
 
 
 def annotation_of(declared, modules, type_):
@@ -97,6 +98,50 @@ def method(name, parameters, body):
     return f"\n{line}        {body}\n"
 
 
+def python_name(name):
+    """The name of a class; one that Python has a word for is followed by `_`."""
+    return f"{name}_" if iskeyword(name) else name
+
+
+def class_head(name, base, doc, is_dataclass=True):
+    decorator = "@value_class\n" if is_dataclass else ""
+    return f"{decorator}class {name}({base}):\n{docstring(doc, '    ')}"
+
+
+def constructor(given):
+    """What builds a value of its parts, by their names; those may be left out that may be absent."""
+    names = [parameter(name, it) for name, it in given.items()]
+    held = (f"[*{name}]" if it.startswith("List[") else name for name, it in given.items())
+    return method("__init__", ["*", *names] if names else [], f"self._hold({', '.join(held)})")
+
+
+def parameter(name, annotation):
+    """A parameter of that; of a list it is any sequence, none where it is left out."""
+    if annotation.startswith("List["):
+        return f"{name}: Sequence{annotation.removeprefix('List')} = ()"
+    return f"{name}: {annotation} = None" if annotation.startswith("Optional[") else f"{name}: {annotation}"
+
+
+def union_of(name, variants):
+    """The lines that name each variant of an enum, for type checkers."""
+    text = f"typing.Union[{', '.join(f'{name}_{it}' for it in variants)}]"
+    rows = wrap(text, 80, drop_whitespace=False)
+    return "".join(f'            "{it}"\n' for it in rows)
+
+
+def quoted_items(text):
+    """What stands between brackets, each item as a string."""
+    items, depth, item = [], 0, ""
+    for sign in text + ",":
+        depth += (sign == "[") - (sign == "]")
+        if sign == "," and not depth:
+            items.append(f'"{item.strip()}"')
+            item = ""
+        else:
+            item += sign
+    return ", ".join(items)
+
+
 def words_of(words):
     """Some words, as a set."""
     if len(words) < 4:
@@ -149,7 +194,7 @@ def module_text(about, classes, modules):
     checked = CHECKED if "TypeAlias" in code else ""
     checked += "    from weedle import term\n" if "term." in code else ""
     checked += brought_in(wanted - now, modules, "    ")
-    typing = [it for it in TYPING if it in wanted] + ["TYPE_CHECKING"] * bool(checked)
+    typing = [it for it in TYPING if re.search(rf"(?<![.\w]){it}\[", code)] + ["TYPE_CHECKING"] * bool(checked)
     lines = imports("typing", sorted(typing)) + "\n" if typing else ""
     lines += "from weedle._listing import Listing\n" if "(Listing[" in code else ""
     for path, names in (("weedle._leaves", LEAVES), ("weedle._values", VALUES)):

@@ -4,6 +4,7 @@ tools/write/write_all.py runs it. It writes below python/weedle
     grammar.py      the names of the rules, by their numbers, and the version of the library
     term.py         a class for each terminal
     common.py ..    the other types that the crates declare, module by module as weedle2 has them
+    today.py        the types of today's tree that weedle2 hasn't, by python_today.py
     _readers.py     which class each rule makes
 
 Types, fields and variants have weedle2's names, as tools/measure/compare_with_weedle2.py has them, and
@@ -12,22 +13,26 @@ the docs of the crates. What a rule reads is taken from the declarations by desc
 
 import re
 import sys
-from keyword import iskeyword
 from pathlib import Path
 from textwrap import wrap
 
 if not __package__:
     sys.path[0] = str(Path(__file__).resolve().parent.parent)
 
+from description import today
 from description.declarations import Type
 from description.following import NAME_BEFORE, read_behind, texts_of
 from description.names import upper
 from description.readings import Declared
-from description.webidl import BY_NAME, RULES
+from description.webidl import BY_NAME, RULES, parts_of
 from shared.command_line import refuse_writer
 from shared.crates import TOP
 from write.c_header import VERSION, found_in
-from write.python_text import annotation_of, comment, docstring, field, method, module_text, split, words_of
+from write.python_today import Today
+from write.python_text import (
+    annotation_of, class_head, comment, constructor, docstring, field, method, module_text, python_name, quoted_items, split,
+    union_of, words_of,
+)
 
 PACKAGE = TOP / "python/weedle"
 # Where the version of the library stands.
@@ -57,6 +62,14 @@ ABOUT = {
     "dictionary": "Members of dictionaries.",
     "definitions": "Definitions.",
 }
+TODAY = """Today's tree: the types that weedle2's hasn't. What both have is in the other modules.
+
+>>> import weedle
+>>> (definition,) = weedle.parse("[Exposed=*] interface A {};", dialect="today")
+>>> isinstance(definition, weedle.today.Definition.Interface)
+True
+>>> definition.value.attributes[0].body[0].value
+ExtendedAttributeWildcard(identifier=Identifier('Exposed'))"""
 # What weedle2 has otherwise: a part of parentheses, and a tuple.
 PARENTHESIZED, TUPLE = "ParenthesizedArgumentList", "RecordTypes"
 VARIANTS, FIELDS = {"Type_": "Type"}, {"record_": "record"}
@@ -138,33 +151,10 @@ def class_text(package, declaration):
     return struct_text(package, declaration)
 
 
-def python_name(name):
-    """The name of a class; one that Python has a word for is followed by `_`."""
-    return f"{name}_" if iskeyword(name) else name
-
-
-def class_head(name, base, doc, is_dataclass=True):
-    decorator = "@value_class\n" if is_dataclass else ""
-    return f"{decorator}class {name}({base}):\n{docstring(doc, '    ')}"
-
-
 def alias_text(package, declaration):
     text = package.annotation(declaration.parts[0].type)
     quoted = re.sub(r"^(\w+)\[(.*)\]$", lambda it: f'{it[1]}[{quoted_items(it[2])}]', text)
     return f"{comment(declaration.doc, '')}{declaration.name} = {quoted}\n"
-
-
-def quoted_items(text):
-    """What stands between brackets, each item as a string."""
-    items, depth, item = [], 0, ""
-    for sign in text + ",":
-        depth += (sign == "[") - (sign == "]")
-        if sign == "," and not depth:
-            items.append(f'"{item.strip()}"')
-            item = ""
-        else:
-            item += sign
-    return ", ".join(items)
 
 
 def struct_text(package, declaration):
@@ -185,20 +175,11 @@ def struct_text(package, declaration):
     return class_head(declaration.name, base, declaration.doc) + "\n" + "".join(rows)
 
 
-def constructor(given):
-    """What builds a value of its parts, by their names; those may be left out that may be absent."""
-    names = [
-        f"{name}: {it} = None" if it.startswith("Optional[") else f"{name}: {it}"
-        for name, it in given.items()
-    ]
-    return method("__init__", ["*", *names] if names else [], f"self._hold({', '.join(given)})")
-
-
 def list_text(declaration):
     """The class of a list with separators, whose items are found by the base."""
     head = class_head(declaration.name, "Listed[T, S]", declaration.doc, is_dataclass=False)
     if declaration.name == "PunctuatedNonEmpty":
-        head += '\n    _fronts = ("",)\n'
+        head += '\n    _fronts = ("", None)\n'
         head += "\n    def _listing(self) -> int:\n        return self._tree.children(self._node)[0]\n"
     return head
 
@@ -239,16 +220,9 @@ def enum_text(package, declaration):
     return "\n\n".join(classes)
 
 
-def union_of(name, variants):
-    """The lines that name each variant of an enum, for type checkers."""
-    text = f"typing.Union[{', '.join(f'{name}_{it}' for it in variants)}]"
-    rows = wrap(text, 80, drop_whitespace=False)
-    return "".join(f'            "{it}"\n' for it in rows)
-
-
 # Which class a rule makes.
 class Makers:
-    """What each rule makes, found from the type of all definitions on."""
+    """What each rule of weedle2's makes, found from the type of all definitions on."""
 
     # What stands before the call of a class.
     NEW = ""
@@ -307,9 +281,11 @@ class Makers:
         return "Variants({\n" + "".join(rows) + "    })"
 
     def text(self):
+        """The module that says so, of today's rules too."""
+        makers, separators = Today(self.package).makers(self.makers)
         lines, pairs = (
             [f'    "{rule}": {it},\n' for rule, it in sorted(all_.items())]
-            for all_ in (self.makers, self.separators)
+            for all_ in ({**self.makers, **makers}, {**self.separators, **separators})
         )
         used = re.findall(r"[ (](\w+)\.", "".join([*lines, *pairs]))
         return READERS.format(
@@ -327,7 +303,9 @@ Written by tools/write/python_types.py, and not edited by hand.
 from weedle import (
     {modules},
 )
-from weedle._making import Between, Many, Maybe, Together, Variants, fill
+from weedle._making import (
+    Between, Kinds, Many, Maybe, Pieces, Through, Together, Variants, Within, fill,
+)
 from weedle._writing import FOLLOWING, ITEMS
 from weedle.grammar import NUMBERS, RULES
 
@@ -364,6 +342,14 @@ KEYWORDS = frozenset(
 #: name.
 READ_BEHIND = {{
 {behind}}}
+
+#: The words of today's grammar that have the letters of a name.
+TODAY_KEYWORDS = frozenset(
+{today_keywords})
+
+#: Which of them are read behind which word.
+TODAY_READ_BEHIND = {{
+{today_behind}}}
 '''
 
 
@@ -372,18 +358,36 @@ def texts():
     for name, declarations in package.modules.items():
         classes = [class_text(package, it) for it in declarations]
         yield name, module_text(ABOUT[name], classes, package.module)
+    yield "today", module_text(TODAY, list(Today(package).classes()), package.module)
     yield "_readers", Makers(package).text()
-    names = "".join(f'    "{it.name.lower()}",\n' for it in RULES)
+    names = "".join(f'    "{it.name.lower()}",\n' for it in today.RULES)
     version = found_in(VERSION, (TOP / LIBRARY).read_text(encoding="utf-8"), LIBRARY)
-    behind = "".join(f'    "{word}": {words_of(it)},\n' for word, it in read_behind(RULES).items())
+    known = reached(today.RULES, "TODAY_DEFINITIONS")
     yield "grammar", GRAMMAR.format(
-        version=version, names=names, keywords=split(keywords()), behind=behind, before=NAME_BEFORE,
+        version=version, names=names, keywords=split(keywords(RULES)), behind=behind_text(RULES), before=NAME_BEFORE,
+        today_keywords=split(keywords(known)), today_behind=behind_text(known),
     )
 
 
-def keywords():
-    """The words of the grammar that have the letters of a name."""
-    words = {it.row[1] for it in RULES if it.row[0] == "Bytes"}
+def behind_text(rules):
+    """The rows that say which words are read behind which word."""
+    return "".join(f'    "{word}": {words_of(it)},\n' for word, it in read_behind(rules).items())
+
+
+def reached(rules, start):
+    """The rules that are read from one on, in their order."""
+    by_name, found, waiting = {it.name: it for it in rules}, set(), [start]
+    while waiting:
+        name = waiting.pop()
+        if name not in found:
+            found.add(name)
+            waiting += parts_of(by_name[name].row)
+    return [it for it in rules if it.name in found]
+
+
+def keywords(rules):
+    """The words of some rules that have the letters of a name."""
+    words = {it.row[1] for it in rules if it.row[0] == "Bytes"}
     return sorted(it for it in words if it[:1].isalpha())
 
 

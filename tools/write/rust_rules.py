@@ -6,6 +6,7 @@ others, as an option of what another rule reads, or such a thing between parenth
 
 import re
 
+from description import today
 from description.names import upper
 from description.webidl import BY_NAME, NUMBER, RULES
 
@@ -16,6 +17,8 @@ BRACKETS = {
 }
 # What reads a part of these rules is asked for by name: the definitions, `true`, and a line of a docstring.
 NAMED = ("DEFINITIONS", "TRUE", "PAST_LF")
+# The whole of a text by today's rules, of which there are nodes and no types.
+TODAY = "TODAY_DEFINITIONS"
 # The names of what a function is given, by how many they are.
 GIVEN = {1: ["item"], 2: ["first", "second"], 3: ["first", "second", "third"]}
 # What each function says.
@@ -122,16 +125,16 @@ def tuple_of(words):
 def rules_text(written, version, named):
     """The module, with a constant for each rule that it names, or that is named elsewhere."""
     functions = "".join(function_text(name, table) for name, table in tables().items())
-    many = [it.name for it in RULES if it.row[0] == "Many" and it.shape == "Plain"]
+    many = [it.name for it in RULES if it.row[0] == "Many" and it.shape == "Plain"] + [TODAY]
     functions = LONG.format(rules="\n            | ".join(many)) + functions
-    used = {*named, *NAMED, *re.findall(r"\b[A-Z][A-Z0-9_]+\b", functions)} & NUMBER.keys()
+    used = {*named, *NAMED, *re.findall(r"\b[A-Z][A-Z0-9_]+\b", functions)} & {*NUMBER, TODAY}
     constants = "".join(
-        f"pub const {it.name}: u16 = {NUMBER[it.name]};\n" for it in RULES if it.name in used
+        f"pub const {it.name}: u16 = {today.NUMBER[it.name]};\n" for it in today.RULES if it.name in used
     )
-    names = "".join(f'    "{it.name.lower()}",\n' for it in RULES)
-    head = HEAD.format(written=written, count=len(RULES), version=version)
+    names = "".join(f'    "{it.name.lower()}",\n' for it in today.RULES)
+    head = HEAD.format(written=written, count=len(today.RULES), version=version)
     about = "/// The names of the rules, by their numbers."
-    listed = f"\n{about}\npub const NAMES: [&str; {len(RULES)}] = [\n{names}];\n"
+    listed = f"\n{about}\npub const NAMES: [&str; {len(today.RULES)}] = [\n{names}];\n"
     return f"{head}\n{constants}{functions}{listed}"
 
 

@@ -23,7 +23,7 @@ if not __package__:
     sys.path[0] = str(Path(__file__).resolve().parent.parent)
 
 from description.classes import CLASSES
-from description.webidl import NUMBER, RULES
+from description.today import NUMBER, RULES
 from shared.command_line import refuse_writer
 from shared.crates import TOP
 from shared.written_places import put

@@ -151,7 +151,7 @@ def built_terminal(name, *_):
 
     ghost tree = {{ mark_tree }};
 
-    fn build(_alloc: Global, table: &Ends<'a>, rule: Rule, at: At) -> BuildResult<Self> {{
+    fn build(_alloc: Global, table: Table<'_, 'a>, rule: Rule, at: At) -> BuildResult<Self> {{
         Ok(({name}, mark(table, rule, at)))
     }}
 }}
@@ -159,8 +159,8 @@ def built_terminal(name, *_):
 
 
 def built_terminals(file):
-    uses = ["crate::at::At", "crate::build::{Build, BuildResult, mark}", "std::alloc::Global", "weedle_rules::{Ends, Rule}",
-            f"weedle_base::term::{{{names_of(file)}}}"]
+    uses = ["crate::at::At", "crate::build::{Build, BuildResult, mark}", "crate::table::Table", "std::alloc::Global",
+            "weedle_rules::Rule", f"weedle_base::term::{{{names_of(file)}}}"]
     ghost = ["std.specs.Prelude.{◌≡◌}", rules_of(file), "weedle_base.specs.Rules.{mark_tree}"]
     return text_of(file, ghost, uses, built_terminal)
 

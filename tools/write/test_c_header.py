@@ -2,7 +2,7 @@
 
 import re
 
-from description.webidl import RULES
+from description.today import RULES
 from shared.crates import Unfit
 from shared.test_support import Room
 from write import c_header
@@ -25,11 +25,19 @@ pub const NONE: usize = 0;
 /// A sign is missing there.
 pub const MISSING: usize = 1;
 """
+DIALECTS = """//! Dialects.
+
+/// The old rules.
+pub const OLD: u32 = 0;
+
+/// Today's.
+pub const TODAY: u32 = 1;
+"""
 
 
 class Header(Room):
     def header(self, code=CODE):
-        texts = {"lib.rt": code, "status.rt": STATUSES, "hint.rt": HINTS}
+        texts = {"lib.rt": code, "status.rt": STATUSES, "hint.rt": HINTS, "dialect.rt": DIALECTS}
         self.put({f"crates/weedle_c/src/{name}": text for name, text in texts.items()})
         return c_header.header_of(self.root)
 
@@ -49,6 +57,11 @@ class Header(Room):
         text = self.header()
         self.assertIn("    WEEDLE_HINT_NONE = 0, /* There is none. */\n", text)
         self.assertIn("    WEEDLE_HINT_MISSING = 1 /* A sign is missing there. */\n};", text)
+
+    def test_each_dialect_has_its_doc_and_the_last_no_comma(self):
+        text = self.header()
+        self.assertIn("    WEEDLE_DIALECT_OLD = 0, /* The old rules. */\n", text)
+        self.assertIn("    WEEDLE_DIALECT_TODAY = 1 /* Today's. */\n};", text)
 
     def test_each_rule_has_a_constant_and_a_name_at_its_number(self):
         text = self.header()

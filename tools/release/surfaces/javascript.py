@@ -6,13 +6,14 @@ from typing import Iterator
 
 from release.surfaces import Change, Surface
 
-# What index.d.ts hands out; what of it stands in `term` has that name in front.
+# What index.d.ts hands out; what of it stands in `term` or `today` has that name in front.
 FILES = {
     "js/index.d.ts": "",
     "js/lib/value.d.ts": "",
     "js/lib/written/values.d.ts": "",
     "js/lib/written/roles.d.ts": "",
     "js/lib/written/term.d.ts": "term.",
+    "js/lib/written/today.d.ts": "today.",
 }
 COMMENT = re.compile(r"/\*.*?\*/|^\s*//[^\n]*", re.M | re.S)
 HEAD = re.compile(
