@@ -1,8 +1,6 @@
 -- Definitions that are found one after another.
-use Rattle.std.proofs.Common.{◌≡◌, refl, inl, inr, ℕ, ◌<◌, List, [], ◌∷◌, ◌++◌, length, map, sym, subst, ◌∙◌, ap, append_assoc, append-nil}
+use Rattle.std.proofs.Common.{◌≡◌, inl, inr, ℕ, ◌<◌, List, [], ◌∷◌, ◌++◌, length, map, sym, subst, ◌∙◌, ap, append_assoc, append-nil}
 use Rattle.std.specs.Prelude.{All}
-use Rattle.weedle_grammar.specs.Rows.{Many}
-use Rattle.weedle_grammar.specs.written.Table.{row_of}
 use Rattle.weedle_rules.specs.Outcomes.{EndsAt, FailsAt}
 use Rattle.weedle_rules.proofs.OutcomeFacts.{not_both}
 use Rattle.weedle_syntax.specs.declared.dialect.Dialect.{Dialect}
@@ -13,6 +11,7 @@ use Rattle.weedle_syntax.specs.Parts.{AreItems as AreItemNodes}
 use Rattle.weedle_syntax.specs.Parts.{AreParts, HasParts}
 use Rattle.weedle_syntax.specs.Syntax.{a_tree, node_to}
 use Rattle.weedle_syntax.specs.Tree.{node_at, children_of}
+use Rattle.weedle_syntax.proofs.DialectFacts.{start_row}
 use Rattle.weedle_syntax.proofs.InnerFacts.{children_are_parts}
 use Rattle.weedle_syntax.proofs.StepFacts.{joined}
 use Rattle.weedle_places.specs.declared.place.Place.{Place}
@@ -24,11 +23,6 @@ use Rattle.weedle_places.specs.Standing.{IsStandingIn, IsMemberIn, AreValuesIn}
 use Rattle.weedle_places.proofs.NameFacts.{children_within}
 use Rattle.weedle_places.proofs.NumberFacts.{AreBelow}
 use Rattle.weedle_places.proofs.WithinFacts.{members_within}
-
--- the rule of a whole text is a repetition
-start_row : (dialect : Dialect) → row_of (start_of dialect) ≡ Many (item_of dialect)
-start_row Weedle2 = refl
-start_row Today = refl
 
 -- a definition that begins here is the next
 next_here : (dialect : Dialect) (text : List ℕ) (p q : ℕ) → q ≡ p → IsNextIn dialect text p q

@@ -6,7 +6,7 @@ use Rattle.weedle_grammar.proofs.Takes.{takes}
 use Rattle.weedle_grammar.proofs.Checked.{rank, ranked}
 use Rattle.weedle_grammar.proofs.Exists.{advances}
 use Rattle.weedle_grammar.specs.Meaning.{first_here}
-use Rattle.weedle_grammar.specs.Rows.{First, Many}
+use Rattle.weedle_grammar.specs.Rows.{First}
 use Rattle.weedle_grammar.specs.Trees.{Gives}
 use Rattle.weedle_grammar.specs.written.Table.{webidl, row_of}
 use Rattle.weedle_grammar.specs.written.Table.TodayDefinitions.{TODAY_DEFINITION, TODAY_PIECE}
@@ -23,6 +23,7 @@ use Rattle.weedle_syntax.specs.Syntax.{AreTrees, no_trees}
 use Rattle.weedle_syntax.specs.declared.dialect.Dialect.{Dialect}
 use Rattle.weedle_syntax.specs.declared.dialect.Dialect.TheVariants.{Weedle2, Today}
 use Rattle.weedle_syntax.proofs.DescentFacts.{trees_append}
+use Rattle.weedle_syntax.proofs.DialectFacts.{start_row}
 use Rattle.weedle_recovery.specs.Counts.{ReadingView}
 use Rattle.weedle_recovery.specs.declared.part.Part.{Part}
 use Rattle.weedle_recovery.specs.Recovery.{IsPart, ArePartsIn, root_where, roots_of, IsDivided, IsPassed, unread, IsDefinitionIn}
@@ -115,15 +116,10 @@ pub item_takes : (dialect : Dialect) (text : List ℕ) (p q : ℕ) → EndsAt te
 item_takes Weedle2 text p q h = advances webidl text rank takes ranked h.1 refl
 item_takes Today text p q h = advances webidl text rank takes ranked h.1 refl
 
--- a whole text has many items
-items : (dialect : Dialect) → row_of (start_of dialect) ≡ Many (item_of dialect)
-items Weedle2 = refl
-items Today = refl
-
 module _ (dialect : Dialect) (text : List ℕ) (p : ℕ) (inside : p < length text) (ends : EndsAt text (start_of dialect) p (length text)) where
   -- where the rest of a text is read whole, an item is read
   pub item_reads : FailsAt text (item_of dialect) p → ⊥
-  item_reads fails = let e : length text ≡ p = many_stops text (start_of dialect) p (length text) ends (items dialect) fails in omega arith
+  item_reads fails = let e : length text ≡ p = many_stops text (start_of dialect) p (length text) ends (start_row dialect) fails in omega arith
 
   -- so it isn't where no definition is, if nothing else is an item
   pub nothing_left : item_of dialect ≡ definition_of dialect → FailsAt text (definition_of dialect) p → ⊥
@@ -165,7 +161,7 @@ module _ (dialect : Dialect) {text : List ℕ} {parts : List Part} {place : ℕ}
   goes_on {end} part w item is added whole =
       let so_far = w whole in
       record {
-        ends = (many_goes text (start_of dialect) place (length text) so_far.ends (items dialect) item).1;
+        ends = (many_goes text (start_of dialect) place (length text) so_far.ends (start_row dialect) item).1;
         definitions = subst (All (IsDefinitionIn dialect)) (sym added) (all_more dialect parts part so_far.definitions is);
       }
 

@@ -26,4 +26,4 @@ pub mod InnerFacts
 mod RunFacts
 mod CompactFacts
 mod FillFacts
-mod DialectFacts
+pub mod DialectFacts
