@@ -60,8 +60,8 @@ impl Task {
     }
 }
 
-/// The task that is asked for, or None where there is no such option, and where it is one over values
-/// and today's rules are asked for, which give none.
+/// The task that is asked for, or None where there is no such option, and where it is one over
+/// values and today's rules are asked for, which give none.
 pub fn task_of(request: &Request) -> Option<Task> {
     let task = match &request.option {
         None => Task::Check,

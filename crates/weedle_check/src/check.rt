@@ -97,8 +97,8 @@ fn is_written_at_once<W: Write>(
     }
 }
 
-/// Whether a text is read whole. Where it isn't, it writes as many of its errors as are wished, where
-/// and why, and whether today's rules read what weedle2's refuse.
+/// Whether a text is read whole. Where it isn't, it writes as many of its errors as are wished,
+/// where and why, and whether today's rules read what weedle2's refuse.
 fn judge<W: Write>(
     alloc: Global,
     wish: Wish,

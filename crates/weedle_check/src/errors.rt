@@ -11,8 +11,8 @@ use weedle_syntax::Dialect;
 /// Writes why each unread part of a text is so except for the first, of which that is said, and how
 /// many more there are than are wished. It says how many errors there are with the first.
 ///
-/// With 1 it looks for no others, and where memory runs out for them, or today's rules find that the
-/// text nests too deep, it finds none. It fails where a write does.
+/// With 1 it looks for no others, and where memory runs out for them, or today's rules find that
+/// the text nests too deep, it finds none. It fails where a write does.
 pub fn write_others<W: Write>(
     alloc: Global,
     wish: Wish,

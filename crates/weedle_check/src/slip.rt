@@ -12,8 +12,8 @@ use weedle_syntax::{Dialect, syntax_of_rule};
 pub struct Slip {
     /// The byte of the text at which it is.
     pub place: usize,
-    /// What would have been read there, or None where there is no memory for more than the place, or
-    /// the text nests too deep: then it is where the remaining input begins.
+    /// What would have been read there, or None where there is no memory for more than the place,
+    /// or the text nests too deep: then it is where the remaining input begins.
     pub words: Option<String>,
     /// The text nests too deep for today's rules to say more.
     pub is_deep: bool,

@@ -37,8 +37,8 @@ pub enum Task {
     Write,
 }
 
-/// The task that is asked for, or None where there is no such option, and where the standard input is
-/// to be replaced.
+/// The task that is asked for, or None where there is no such option, and where the standard input
+/// is to be replaced.
 pub fn task_of(request: &Request) -> Option<Task> {
     let task = match &request.option {
         None => Task::Print,

@@ -87,10 +87,10 @@ pub fn format(alloc: Global, raw: &str) -> Result<Option<Formatted>, AllocError>
 
 /// The formatted text, where it is read whole by the rules of a dialect; None where it isn't.
 ///
-/// `[Exposed=*]interface A{};` becomes `[Exposed=*] interface A {};` by today's rules, and weedle2's
-/// don't read it. A text that both read has one layout. A text of whitespace and comments alone,
-/// which today's rules read, stays as it is; so does what they read behind a docstring that no
-/// definition follows.
+/// `[Exposed=*]interface A{};` becomes `[Exposed=*] interface A {};` by today's rules, and
+/// weedle2's don't read it. A text that both read has one layout. A text of whitespace and comments
+/// alone, which today's rules read, stays as it is; so does what they read behind a docstring that
+/// no definition follows.
 ///
 /// It costs what [`format`] costs.
 #[tactic(auto, using(crate::proofs::ReadingFacts::same_reading))]

@@ -59,8 +59,8 @@ pub fn is_transitive_in()
         → SaysTheSameIn d a b → SaysTheSameIn d b c → SaysTheSameIn d a c }
 {}
 
-/// A law, which does nothing: where a text says the same as another by the rules of a dialect, these
-/// read the same trees of both.
+/// A law, which does nothing: where a text says the same as another by the rules of a dialect,
+/// these read the same trees of both.
 pub fn same_reading_in()
     ensures { (d : TheDialect) (a b : List ℕ) → SaysTheSameIn d a b → IsReadAlikeIn d a b }
 {}

@@ -1,5 +1,5 @@
-//! A lazy packrat parser: of a text only what the reading of its definitions needs, each rule at each
-//! place at most once, with no recursion.
+//! A lazy packrat parser: of a text only what the reading of its definitions needs, each rule at
+//! each place at most once, with no recursion.
 //!
 //! ```rust
 //! use weedle_memo::{Memo, Tables};

@@ -66,7 +66,8 @@ pub(crate) fn resume(
     requires opened { IsOpen reader.now.text frame }
     requires waits { Waits reader.now.text frame rule place 1 }
     requires came { HasEnd reader.now.text rule place outcome }
-    requires covered { Covered reader.now.text (memory_of reader.now) (row_of frame.rule) frame place }
+    requires covered { Covered reader.now.text (memory_of reader.now) (row_of frame.rule)
+        frame place }
     requires met { MetIf (memory_of reader.now) rule place outcome }
     ensures same { SameCell frame result.0 }
     ensures turn { IsStep reader.now.text result.0 result.1 }

@@ -50,17 +50,17 @@ impl<'a> Memo<'a> {
         })
     }
 
-    /// Where the definitions at the front of the text end: 15 of `interface A {}; x`, and the length
-    /// of a text that is read whole. It takes no memory.
+    /// Where the definitions at the front of the text end: 15 of `interface A {}; x`, and the
+    /// length of a text that is read whole. It takes no memory.
     pub fn definitions_end(&self) -> Option<usize>
         ensures { HasEnd self.now.text DEFINITIONS 0 result }
     {
         self.end
     }
 
-    /// Where a rule ends at a place, or None where it fails there. It answers of what the reading of
-    /// the definitions tries: of the rule of definitions at 0, and of whatever a rule tries that is
-    /// itself tried so and ends. It takes no memory, and works out nothing.
+    /// Where a rule ends at a place, or None where it fails there. It answers of what the reading
+    /// of the definitions tries: of the rule of definitions at 0, and of whatever a rule tries that
+    /// is itself tried so and ends. It takes no memory, and works out nothing.
     pub fn end(&self, rule: Rule, place: usize) -> Option<usize>
         requires within { place ≤ length self.now.text }
         requires wanted { Wanted self.now.text rule place }

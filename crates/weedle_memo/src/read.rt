@@ -1,6 +1,7 @@
 //! The reading of a text: frames wait on a stack of their own, and there is no recursion.
 
-ghost use Rattle.std.specs.Prelude.{◌^◌, ◌≡◌, ◌≤◌, ◌<◌, ◌+◌, ◌-◌, ◌*◌, false, [], length, reverse, IfOk};
+ghost use Rattle.std.specs.Prelude.{◌^◌, ◌≡◌, ◌≤◌, ◌<◌, ◌+◌, ◌-◌, ◌*◌, false, [], length, reverse};
+ghost use Rattle.std.specs.Prelude.{IfOk};
 ghost use Rattle.weedle_grammar.specs.written.Table.{row_of};
 ghost use Rattle.weedle_rules.specs.Cells.{HasEnd};
 ghost use Rattle.weedle_starts.specs.Tries.{has_no_parts};
@@ -30,7 +31,8 @@ fn advance(
     requires absent { Absent reader.old.known frame.rule frame.place }
     requires others { AreWaiting reader.old.text (memory_of reader.old)
         (reverse waiting.old.items) frame.rule frame.place }
-    requires covered { Covered reader.old.text (memory_of reader.old) (row_of frame.rule) frame place }
+    requires covered { Covered reader.old.text (memory_of reader.old) (row_of frame.rule)
+        frame place }
     requires closed { AreClosed reader.old.text (memory_of reader.old) }
     ensures same { SameText reader.old reader.new }
     ensures state { IfOk result (λ next. IsState reader.new.text (memory_of reader.new)
@@ -60,7 +62,8 @@ fn settle(
     frame: Frame,
     step: Step,
 ) -> Result<(Frame, Option<usize>), AllocError>
-    requires state { IsState reader.old.text (memory_of reader.old) (reverse waiting.old.items) frame step }
+    requires state { IsState reader.old.text (memory_of reader.old) (reverse waiting.old.items)
+        frame step }
     requires closed { AreClosed reader.old.text (memory_of reader.old) }
     ensures same { SameText reader.old reader.new }
     ensures done { IfOk result (λ done. IsDone reader.new.text (memory_of reader.new)

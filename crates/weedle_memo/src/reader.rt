@@ -3,14 +3,17 @@
 //! While a rule is worked out, bytes and rules are looked at by these calls alone, each of which
 //! counts.
 
-ghost use Rattle.std.specs.Prelude.{◌^◌, ◌≡◌, ◌≤◌, ◌<◌, ◌+◌, ◌*◌, ◌∷◌, ◌++◌, [], ℕ, length, max, IfOk, OnOk, drop, option_map};
-ghost use Rattle.weedle_grammar.specs.Rows.{take_bytes, take_one, take_not_next, run_length, take_past};
+ghost use Rattle.std.specs.Prelude.{◌^◌, ◌≡◌, ◌≤◌, ◌<◌, ◌+◌, ◌*◌, ◌∷◌, ◌++◌, [], ℕ, length, max};
+ghost use Rattle.std.specs.Prelude.{IfOk, OnOk, drop, option_map};
+ghost use Rattle.weedle_grammar.specs.Rows.{take_bytes, take_one, take_not_next, run_length};
+ghost use Rattle.weedle_grammar.specs.Rows.{take_past};
 ghost use Rattle.weedle_grammar.specs.written.Bound.{rule_count, table_count};
 ghost use Rattle.weedle_grammar.specs.written.Table.{row_of as the_row_of};
 ghost use Rattle.weedle_grammar.specs.written.Table.Definitions.{DEFINITIONS};
 ghost use Rattle.weedle_rules.specs.Cells.{HasEnd};
 ghost use Rattle.weedle_memo.specs.Tables.{IsWay};
-ghost use Rattle.weedle_memo.specs.Entries.{IsUnread, AreRight, IsOwn, AreOwn, AreDistinct, Absent, IsLook, IsAsked, entry_at, start_at};
+ghost use Rattle.weedle_memo.specs.Entries.{IsUnread, AreRight, IsOwn, AreOwn, AreDistinct, Absent};
+ghost use Rattle.weedle_memo.specs.Entries.{IsLook, IsAsked, entry_at, start_at};
 ghost use Rattle.weedle_memo.specs.Closure.{MetLook, memory_of, SameText};
 
 use crate::READS;

@@ -36,14 +36,14 @@ impl<'a> Model for RuleMemo<'a> {
 }
 
 impl<'a> RuleMemo<'a> {
-    /// Reads a rule at a place of a text, as the rule of types at 8 in `typedef long? A;`: each rule
-    /// at each place at most once, and only where it is tried.
+    /// Reads a rule at a place of a text, as the rule of types at 8 in `typedef long? A;`: each
+    /// rule at each place at most once, and only where it is tried.
     ///
     /// There is no recursion, so however deep a text nests, it takes little of the stack. It asks
     /// for a number of 8 bytes for each place of the text, for entries of 16 bytes, of real files
-    /// one to two a byte, and for frames of 24 bytes of the rules that are open. Where 32 bits don't
-    /// hold a place or the number of an entry, entries have 40 bytes. Where memory is refused, the
-    /// answer is an error.
+    /// one to two a byte, and for frames of 24 bytes of the rules that are open. Where 32 bits
+    /// don't hold a place or the number of an entry, entries have 40 bytes. Where memory is
+    /// refused, the answer is an error.
     pub fn new(
         alloc: Global,
         text: &'a str,
@@ -73,7 +73,8 @@ impl<'a> RuleMemo<'a> {
     /// tried so and ends. It takes no memory, and works out nothing.
     pub fn end(&self, rule: Rule, place: usize) -> Option<usize>
         requires within { place ≤ length self.now.text }
-        requires wanted { WantedFrom self.now.text self.now.start.rule self.now.start.place rule place }
+        requires wanted { WantedFrom self.now.text self.now.start.rule self.now.start.place
+            rule place }
         ensures right { HasEnd self.now.text rule place result }
     {
         weedle_grammar::laws::one_outcome();

@@ -40,8 +40,8 @@ pub struct Request {
 }
 
 impl Request {
-    /// What the arguments ask for, of which the first is the program's name. It fails with the usage
-    /// where two options are given that differ, and where memory for the names is refused.
+    /// What the arguments ask for, of which the first is the program's name. It fails with the
+    /// usage where two options are given that differ, and where memory for the names is refused.
     pub fn new<R: Runtime + AllocGlobal>(rt: &R, usage: &'static str) -> Result<Request, Fault> {
         Request::with(rt, usage, Beside::Nothing)
     }

@@ -30,8 +30,8 @@ pub enum Fault {
 }
 
 impl Fault {
-    /// What is wrong with an input that gives this error. Where the error is that memory is refused,
-    /// it is no fault of the input.
+    /// What is wrong with an input that gives this error. Where the error is that memory is
+    /// refused, it is no fault of the input.
     pub fn of_input(error: io::Error) -> Fault {
         if error.kind() == ErrorKind::OutOfMemory {
             Fault::Memory

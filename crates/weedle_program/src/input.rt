@@ -9,13 +9,14 @@ use std::rt::Runtime;
 /// What the standard input is called in what is said of it.
 const STANDARD_INPUT: &str = "<stdin>";
 
-/// What a file is called in what is said of it: by its name, and `-`, the standard input, `<stdin>`.
+/// What a file is called in what is said of it: by its name, and `-`, the standard input,
+/// `<stdin>`.
 pub fn name_of(file: &str) -> &str {
     if file == "-" { STANDARD_INPUT } else { file }
 }
 
-/// The text of the file of this name, or of the standard input where the name is `-`. It fails where
-/// the file can't be opened or read or isn't UTF-8, and where memory is refused.
+/// The text of the file of this name, or of the standard input where the name is `-`. It fails
+/// where the file can't be opened or read or isn't UTF-8, and where memory is refused.
 pub fn text_in<R: Runtime + AllocGlobal>(rt: &R, file: &str) -> Result<String, Fault> {
     if file == "-" {
         text_of(rt.alloc(), Ok(rt.reader()))

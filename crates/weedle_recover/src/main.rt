@@ -16,12 +16,12 @@
 //! 25 nodes
 //! ```
 //!
-//! It reads by weedle2's rules, and with `--today` by today's. Where weedle2's don't read all parts,
-//! and today's read the whole text, a line more says so: `today's WebIDL reads it: --today`.
+//! It reads by weedle2's rules, and with `--today` by today's. Where weedle2's don't read all
+//! parts, and today's read the whole text, a line more says so: `today's WebIDL reads it: --today`.
 //!
 //! The status is 0 where there is an answer, 1 where the text nests too deep for today's rules, 2
-//! where the input can't be read or isn't UTF-8, 3 where memory ran out, 4 where the output can't be
-//! written, and 5 where the arguments are others.
+//! where the input can't be read or isn't UTF-8, 3 where memory ran out, 4 where the output can't
+//! be written, and 5 where the arguments are others.
 #![tactic(auto)]
 
 mod program;

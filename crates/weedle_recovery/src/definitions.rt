@@ -317,8 +317,8 @@ pub(crate) fn failing_place(
     Ok(place)
 }
 
-/// Whether a `;` at a place ends a body that lacks its `}`: the text ends behind it, or a definition
-/// begins there.
+/// Whether a `;` at a place ends a body that lacks its `}`: the text ends behind it, or a
+/// definition begins there.
 pub(crate) fn ends_body(
     alloc: Global,
     text: &Reading<'_>,

@@ -48,8 +48,8 @@ fn assert_built(
     Ok(())
 }
 
-/// Asserts that `parse_bounded` gives this within its bounds, with so many visits, and has the other
-/// counts from the memo of the text.
+/// Asserts that `parse_bounded` gives this within its bounds, with so many visits, and has the
+/// other counts from the memo of the text.
 fn assert_bounded(
     rt: &impl Abort,
     alloc: Global,

@@ -9,8 +9,8 @@ use crate::runs::{Run, Runs, are_narrow};
 use std::alloc::{AllocError, Global};
 use std::marker::Model;
 
-/// The nodes of a rule that was read, in preorder: the node of the rule, and all below it in 8 bytes
-/// each where their depths and their places within a definition are below 2¹⁶, else in 16.
+/// The nodes of a rule that was read, in preorder: the node of the rule, and all below it in 8
+/// bytes each where their depths and their places within a definition are below 2¹⁶, else in 16.
 #[derive(Drop)]
 pub struct Compact {
     pub(crate) root: Narrow,

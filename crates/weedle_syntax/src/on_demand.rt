@@ -27,8 +27,8 @@ use weedle_memo::{RuleMemo, Tables};
 /// `interface A {` the answer is None.
 ///
 /// It asks for memory for a memo of what the reading tries, as `RuleMemo::new` says, and for the
-/// nodes: about one for each byte of a text. Where that is refused, the answer is an error. There is
-/// no recursion, however deep the text nests, and no rule is worked out twice at a place.
+/// nodes: about one for each byte of a text. Where that is refused, the answer is an error. There
+/// is no recursion, however deep the text nests, and no rule is worked out twice at a place.
 pub fn syntax(alloc: Global, raw: &str) -> Result<Option<Vec<Node>>, AllocError>
     ensures whole { IfOk result (λ found. IsSome found ↔ IsWhole raw.now) }
     ensures are { IfOk result (λ found. IfSome found (λ nodes. IsSyntax raw.now nodes.items)) }
@@ -66,8 +66,8 @@ pub(crate) fn front_on_demand(alloc: Global, raw: &str) -> Result<Vec<Node>, All
     }
 }
 
-/// Every rule that was read where a rule is read at the front of a text, in preorder; None where the
-/// rule fails there.
+/// Every rule that was read where a rule is read at the front of a text, in preorder; None where
+/// the rule fails there.
 pub(crate) fn rule_on_demand(
     alloc: Global,
     raw: &str,

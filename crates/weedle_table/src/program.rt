@@ -107,8 +107,8 @@ fn write_places<W: Write>(
     Ok(Outcome::Success)
 }
 
-/// The places in a text that the dialect's rules read whole: over a table by weedle2's, which today's
-/// don't have.
+/// The places in a text that the dialect's rules read whole: over a table by weedle2's, which
+/// today's don't have.
 fn found_places(
     alloc: Global,
     dialect: Dialect,

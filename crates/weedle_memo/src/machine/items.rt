@@ -25,7 +25,8 @@ pub(crate) fn resume_opt(
     requires row { row_of frame.rule ≡ Opt item }
     requires waits { Waits reader.now.text frame rule place 1 }
     requires came { HasEnd reader.now.text rule place outcome }
-    requires covered { Covered reader.now.text (memory_of reader.now) (row_of frame.rule) frame place }
+    requires covered { Covered reader.now.text (memory_of reader.now) (row_of frame.rule)
+        frame place }
     requires met { MetIf (memory_of reader.now) rule place outcome }
     ensures same { SameCell frame result.0 }
     ensures turn { IsStep reader.now.text result.0 result.1 }
@@ -67,7 +68,8 @@ pub(crate) fn resume_many(
     requires row { row_of frame.rule ≡ Many item }
     requires waits { Waits reader.now.text frame rule place 1 }
     requires came { HasEnd reader.now.text rule place outcome }
-    requires covered { Covered reader.now.text (memory_of reader.now) (row_of frame.rule) frame place }
+    requires covered { Covered reader.now.text (memory_of reader.now) (row_of frame.rule)
+        frame place }
     requires met { MetIf (memory_of reader.now) rule place outcome }
     ensures same { SameCell frame result.0 }
     ensures turn { IsStep reader.now.text result.0 result.1 }
@@ -104,7 +106,8 @@ pub(crate) fn resume_list(
     requires row { row_of frame.rule ≡ ListOf item tail }
     requires waits { Waits reader.now.text frame rule place 1 }
     requires came { HasEnd reader.now.text rule place outcome }
-    requires covered { Covered reader.now.text (memory_of reader.now) (row_of frame.rule) frame place }
+    requires covered { Covered reader.now.text (memory_of reader.now) (row_of frame.rule)
+        frame place }
     requires met { MetIf (memory_of reader.now) rule place outcome }
     ensures same { SameCell frame result.0 }
     ensures turn { IsStep reader.now.text result.0 result.1 }
@@ -134,7 +137,8 @@ pub(crate) fn resume_list1(
     requires row { row_of frame.rule ≡ List1 item tail }
     requires waits { Waits reader.now.text frame rule place 1 }
     requires came { HasEnd reader.now.text rule place outcome }
-    requires covered { Covered reader.now.text (memory_of reader.now) (row_of frame.rule) frame place }
+    requires covered { Covered reader.now.text (memory_of reader.now) (row_of frame.rule)
+        frame place }
     requires met { MetIf (memory_of reader.now) rule place outcome }
     ensures same { SameCell frame result.0 }
     ensures turn { IsStep reader.now.text result.0 result.1 }
@@ -164,7 +168,8 @@ pub(crate) fn resume_tail(
     requires row { row_of frame.rule ≡ Tail item separator }
     requires waits { Waits reader.now.text frame rule place 1 }
     requires came { HasEnd reader.now.text rule place outcome }
-    requires covered { Covered reader.now.text (memory_of reader.now) (row_of frame.rule) frame place }
+    requires covered { Covered reader.now.text (memory_of reader.now) (row_of frame.rule)
+        frame place }
     requires met { MetIf (memory_of reader.now) rule place outcome }
     ensures same { SameCell frame result.0 }
     ensures turn { IsStep reader.now.text result.0 result.1 }

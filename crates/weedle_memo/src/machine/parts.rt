@@ -26,7 +26,8 @@ pub(crate) fn resume_seq(
     requires row { row_of frame.rule ≡ Seq (numbers_of parts) }
     requires waits { Waits reader.now.text frame rule place 1 }
     requires came { HasEnd reader.now.text rule place outcome }
-    requires covered { Covered reader.now.text (memory_of reader.now) (row_of frame.rule) frame place }
+    requires covered { Covered reader.now.text (memory_of reader.now) (row_of frame.rule)
+        frame place }
     requires met { MetIf (memory_of reader.now) rule place outcome }
     ensures same { SameCell frame result.0 }
     ensures turn { IsStep reader.now.text result.0 result.1 }
@@ -68,7 +69,8 @@ pub(crate) fn resume_first(
     requires row { row_of frame.rule ≡ First (numbers_of parts) }
     requires waits { Waits reader.now.text frame rule place 1 }
     requires came { HasEnd reader.now.text rule place outcome }
-    requires covered { Covered reader.now.text (memory_of reader.now) (row_of frame.rule) frame place }
+    requires covered { Covered reader.now.text (memory_of reader.now) (row_of frame.rule)
+        frame place }
     requires met { MetIf (memory_of reader.now) rule place outcome }
     ensures same { SameCell frame result.0 }
     ensures turn { IsStep reader.now.text result.0 result.1 }
@@ -120,7 +122,8 @@ pub(crate) fn resume_if(
     requires row { row_of frame.rule ≡ If (numbers_of parts) k last }
     requires waits { Waits reader.now.text frame rule place 1 }
     requires came { HasEnd reader.now.text rule place outcome }
-    requires covered { Covered reader.now.text (memory_of reader.now) (row_of frame.rule) frame place }
+    requires covered { Covered reader.now.text (memory_of reader.now) (row_of frame.rule)
+        frame place }
     requires met { MetIf (memory_of reader.now) rule place outcome }
     ensures same { SameCell frame result.0 }
     ensures turn { IsStep reader.now.text result.0 result.1 }
